@@ -1,0 +1,104 @@
+-- Laws of specs.Finite: tests over all numbers below a bound, the search for the least, members of a list and of a selection. Read next: Xor.
+use mathlib.Core.Path.{_≡_, refl, sym, ap, _∙_, subst}
+use mathlib.Core.Bool.{Bool, true, false, not, cond, _&&_}
+use mathlib.Core.Logic.{_⊎_, inl, inr, _≢_}
+use mathlib.Core.List.{List, [], _∷_, _++_, map}
+use Prim.Native.Nat.{ℕ, zero, suc, _+_, _≤_, _<_}
+use native.Mathlib.Nat.{le-refl, lt-of-not-le, eq-or-lt-of-le, le-of-suc-le-suc, suc-inj, not-suc-le-zero, lt-suc-self}
+use native.Mathlib.Decide.{decLe, ℕ-discrete}
+use native.Mathlib.Omega.{arith}
+use borrow.Author.Tests.{not-true, not-false}
+use Rattle.gf2.specs.Finite.{Mem, all, select}
+use Rattle.gf2.proofs.Logic.{clash, and-l, and-r, and-i, cond-cases}
+
+-- ---- all numbers below a bound
+pub all-at : (f : ℕ → Bool) (n : ℕ) → all f n ≡ true → (i : ℕ) → i < n → f i ≡ true
+unfolding all
+all-at f zero e i h = absurd (not-suc-le-zero h)
+all-at f (suc n) e i h = elim (eq-or-lt-of-le h) [
+  | inl q ↦ rw (suc-inj q) (and-l (f n) (all f n) e)
+  | inr l ↦ all-at f n (and-r (f n) (all f n) e) i (le-of-suc-le-suc l)
+]
+
+pub all-of : (f : ℕ → Bool) (n : ℕ) → ((i : ℕ) → i < n → f i ≡ true) → all f n ≡ true
+unfolding all
+all-of f zero h = refl
+all-of f (suc n) h = and-i (f n) (all f n) (h n (lt-suc-self n)) (all-of f n (λ i l. h i (omega arith)))
+
+pub all-not : (f : ℕ → Bool) (n : ℕ) → all f n ≡ false → (i : ℕ) × (i < n) × (f i ≡ false)
+unfolding all
+all-not f zero e = clash refl e
+all-not f (suc n) e = go (f n) refl (all f n) refl (all-not f n)
+  where
+    go : (a : Bool) → f n ≡ a → (b : Bool) → all f n ≡ b → (all f n ≡ false → (i : ℕ) × (i < n) × (f i ≡ false)) → (i : ℕ) × (i < suc n) × (f i ≡ false)
+    go false p b q ih = (n, lt-suc-self n, p)
+    go true p false q ih = let k = ih q in (k .0, omega arith, k .2)
+    go true p true q ih = clash (and-i (f n) (all f n) p q) e
+
+-- Induction from all smaller numbers.
+pub below-ind : (P : ℕ → Type 0) → ((n : ℕ) → ((m : ℕ) → m < n → P m) → P n) → (n : ℕ) → P n
+below-ind P step n = go (suc n) n (lt-suc-self n)
+  where
+    go : (k m : ℕ) → m < k → P m
+    go zero m h = absurd (not-suc-le-zero h)
+    go (suc k) m h = step m (λ j l. go k j (omega arith))
+
+-- The least number that passes a test which some number passes.
+pub least : (f : ℕ → Bool) (n : ℕ) → f n ≡ true → (m : ℕ) × (m ≤ n) × (f m ≡ true) × ((i : ℕ) → f i ≡ true → m ≤ i)
+least f = below-ind (λ (n : ℕ). f n ≡ true → (m : ℕ) × (m ≤ n) × (f m ≡ true) × ((i : ℕ) → f i ≡ true → m ≤ i)) (λ n ih e. go n ih e (all (λ i. not (f i)) n) refl)
+  where
+    go : (n : ℕ) → ((m : ℕ) → m < n → f m ≡ true → (k : ℕ) × (k ≤ m) × (f k ≡ true) × ((i : ℕ) → f i ≡ true → k ≤ i)) → f n ≡ true → (t : Bool) → all (λ i. not (f i)) n ≡ t
+        → (m : ℕ) × (m ≤ n) × (f m ≡ true) × ((i : ℕ) → f i ≡ true → m ≤ i)
+    go n ih e true q = (n, le-refl n, e, λ i p. elim (decLe n i) [ yes l ↦ l | no l ↦ clash p (not-true (f i) (all-at (λ j. not (f j)) n q i (lt-of-not-le l))) ])
+    go n ih e false q =
+        let k = all-not (λ i. not (f i)) n q in
+        let m = ih (k .0) (k .1) (not-false (f (k .0)) (k .2)) in
+        (m .0, omega (arith, k .1, m .1), m .2, m .3)
+
+-- ---- members of a list
+pub mem-snoc : {A : Type 0} (d : A) (bs : List A) (v : A) → Mem d (bs ++ (v ∷ [])) → Mem d bs ⊎ (d ≡ v)
+mem-snoc d [] v (inl e) = inr e
+mem-snoc d [] v (inr m) = absurd m
+mem-snoc d (b ∷ bs) v (inl e) = inl (inl e)
+mem-snoc d (b ∷ bs) v (inr m) = elim (mem-snoc d bs v m) [ inl k ↦ inl (inr k) | inr e ↦ inr e ]
+
+pub snoc-mem : {A : Type 0} (d : A) (bs : List A) (v : A) → Mem d bs ⊎ (d ≡ v) → Mem d (bs ++ (v ∷ []))
+snoc-mem d [] v (inl m) = absurd m
+snoc-mem d [] v (inr e) = inl e
+snoc-mem d (b ∷ bs) v (inl (inl e)) = inl e
+snoc-mem d (b ∷ bs) v (inl (inr m)) = inr (snoc-mem d bs v (inl m))
+snoc-mem d (b ∷ bs) v (inr e) = inr (snoc-mem d bs v (inr e))
+
+pub map-mem : {A B : Type 0} (f : A → B) (bs : List A) (y : B) → Mem y (map f bs) → (x : A) × Mem x bs × (y ≡ f x)
+map-mem f (b ∷ bs) y (inl e) = (b, inl refl, e)
+map-mem f (b ∷ bs) y (inr m) = let h = map-mem f bs y m in (h .0, inr (h .1), h .2)
+
+pub mem-map : {A B : Type 0} (f : A → B) (bs : List A) (x : A) → Mem x bs → Mem (f x) (map f bs)
+mem-map f (b ∷ bs) x (inl e) = inl (ap f e)
+mem-map f (b ∷ bs) x (inr m) = inr (mem-map f bs x m)
+
+-- ---- members of a selection
+pub select-mem : (f : ℕ → Bool) (k d : ℕ) → Mem d (select f k) → (d < k) × (f d ≡ true)
+unfolding select
+select-mem f zero d m = absurd m
+select-mem f (suc k) d m = cond-cases (λ l. Mem d l → (d < suc k) × (f d ≡ true)) (f k) (select f k ++ (k ∷ [])) (select f k)
+    (λ e n. go e (mem-snoc d (select f k) k n) (select-mem f k d)) (λ e n. let h = select-mem f k d n in (omega arith, h .1)) m
+  where
+    go : f k ≡ true → Mem d (select f k) ⊎ (d ≡ k) → (Mem d (select f k) → (d < k) × (f d ≡ true)) → (d < suc k) × (f d ≡ true)
+    go e (inl n) g = let h = g n in (omega arith, h .1)
+    go e (inr q) g = rw q (lt-suc-self k, e)
+
+pub mem-select : (f : ℕ → Bool) (k d : ℕ) → d < k → f d ≡ true → Mem d (select f k)
+unfolding select
+mem-select f zero d h e = absurd (omega arith)
+mem-select f (suc k) d h e = go (ℕ-discrete d k) (mem-select f k d)
+  where
+    go : Dec (d ≡ k) → (d < k → f d ≡ true → Mem d (select f k)) → Mem d (cond (f k) (select f k ++ (k ∷ [])) (select f k))
+    go (yes q) g = rw (subst (λ (z : ℕ). f z ≡ true) q e) (snoc-mem d (select f k) k (inr q))
+    go (no n) g = cond-cases (Mem d) (f k) (select f k ++ (k ∷ [])) (select f k) (λ c. snoc-mem d (select f k) k (inl (g (omega arith) e))) (λ c. g (omega arith) e)
+
+-- Tests that agree below the bound select the same numbers.
+pub select-ext : (f g : ℕ → Bool) (k : ℕ) → ((x : ℕ) → x < k → f x ≡ g x) → select f k ≡ select g k
+unfolding select
+select-ext f g zero h = refl
+select-ext f g (suc k) h = rw (h k (lt-suc-self k), select-ext f g k (λ x l. h x (omega arith)))

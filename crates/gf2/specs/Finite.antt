@@ -1,0 +1,25 @@
+-- Members of a list, tests over all numbers below a bound, and the numbers below a bound that pass a test. Read next: Bits.
+use mathlib.Core.Path.{_≡_}
+use mathlib.Core.Bool.{Bool, true, false, cond, _&&_}
+use mathlib.Core.Logic.{_⊎_}
+use mathlib.Core.List.{List, [], _∷_, _++_}
+use Prim.Native.Nat.{ℕ, zero, suc, _^_, _<_}
+
+-- x stands in the list.
+abbrev pub Mem : {A : Type 0} → A → List A → Type 0
+Mem x [] = ⊥
+Mem x (b ∷ bs) = (x ≡ b) ⊎ Mem x bs
+
+-- Every number below k passes the test.
+unfoldable pub all : (ℕ → Bool) → ℕ → Bool
+all f zero = true
+all f (suc k) = f k && all f k
+
+-- The numbers below k that pass the test, rising.
+unfoldable pub select : (ℕ → Bool) → ℕ → List ℕ
+select f zero = []
+select f (suc k) = cond (f k) (select f k ++ (k ∷ [])) (select f k)
+
+-- The set of points of n variables that a test gives: a point is a number below 2 ^ n.
+abbrev pub In : ℕ → (ℕ → Bool) → ℕ → Type 0
+In n P x = (x < 2 ^ n) × (P x ≡ true)

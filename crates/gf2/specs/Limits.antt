@@ -1,0 +1,6 @@
+-- The one limit of document 01 on sizes. No law of this crate depends on it. Read next: Finite.
+use Prim.Native.Nat.{ℕ}
+
+-- The largest number of variables of a table (document 01, "Points and spaces").
+abbrev pub maxVariables : ℕ
+maxVariables = 12
