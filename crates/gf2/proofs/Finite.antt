@@ -1,15 +1,16 @@
 -- Laws of specs.Finite: tests over all numbers below a bound, the search for the least, members of a list and of a selection. Read next: Xor.
 use mathlib.Core.Path.{_≡_, refl, sym, ap, _∙_, subst}
-use mathlib.Core.Bool.{Bool, true, false, not, cond, _&&_}
-use mathlib.Core.Logic.{_⊎_, inl, inr, _≢_}
+use mathlib.Core.Bool.{Bool, true, false, not, cond, _&&_, _||_}
+use mathlib.Core.Logic.{_⊎_, inl, inr, _↔_}
 use mathlib.Core.List.{List, [], _∷_, _++_, map}
 use Prim.Native.Nat.{ℕ, zero, suc, _+_, _≤_, _<_}
 use native.Mathlib.Nat.{le-refl, lt-of-not-le, eq-or-lt-of-le, le-of-suc-le-suc, suc-inj, not-suc-le-zero, lt-suc-self}
 use native.Mathlib.Decide.{decLe, ℕ-discrete}
 use native.Mathlib.Omega.{arith}
-use borrow.Author.Tests.{not-true, not-false}
-use Rattle.gf2.specs.Finite.{Mem, all, select}
-use Rattle.gf2.proofs.Logic.{clash, and-l, and-r, and-i, cond-cases}
+use borrow.Author.Tests.{not-true, not-false, eqb-true, eq-eqb}
+use lib.Dec.{eqb}
+use Rattle.gf2.specs.Finite.{Mem, holds, Ordered, Rising, all, select}
+use Rattle.gf2.proofs.Logic.{clash, and-l, and-r, and-i, or-l, or-r, or-cases, cond-cases}
 
 -- ---- all numbers below a bound
 pub all-at : (f : ℕ → Bool) (n : ℕ) → all f n ≡ true → (i : ℕ) → i < n → f i ≡ true
@@ -102,3 +103,40 @@ pub select-ext : (f g : ℕ → Bool) (k : ℕ) → ((x : ℕ) → x < k → f x
 unfolding select
 select-ext f g zero h = refl
 select-ext f g (suc k) h = rw (h k (lt-suc-self k), select-ext f g k (λ x l. h x (omega arith)))
+
+-- The test of membership says what membership does.
+pub holds-mem : (l : List ℕ) (x : ℕ) → (holds l x ≡ true) ↔ Mem x l
+unfolding holds
+holds-mem [] x = (λ e. clash e refl, λ m. absurd m)
+holds-mem (y ∷ ys) x = (
+  λ e. elim (or-cases (eqb y x) (holds ys x) e) [ inl h ↦ inl (sym (eqb-true y x h)) | inr h ↦ inr (holds-mem ys x .0 h) ],
+  λ m. elim m [ inl q ↦ or-l (eqb y x) (holds ys x) (eq-eqb y x (sym q)) | inr k ↦ or-r (eqb y x) (holds ys x) (holds-mem ys x .1 k) ],
+)
+
+-- ---- ordered lists
+
+pub append-mem : {A : Type 0} (l m : List A) (x : A) → Mem x (l ++ m) → Mem x l ⊎ Mem x m
+append-mem [] m x i = inr i
+append-mem (a ∷ l) m x (inl e) = inl (inl e)
+append-mem (a ∷ l) m x (inr i) = elim (append-mem l m x i) [ inl k ↦ inl (inr k) | inr k ↦ inr k ]
+
+pub ordered-append : {A : Type 0} (R : A → A → Type 0) (l m : List A) → Ordered R l → Ordered R m → ((a b : A) → Mem a l → Mem b m → R a b) → Ordered R (l ++ m)
+ordered-append R [] m p q h = q
+ordered-append R (a ∷ l) m p q h =
+    (λ b k. elim (append-mem l m b k) [ inl x ↦ p .0 b x | inr x ↦ h a b (inl refl) x ], ordered-append R l m (p .1) q (λ c b x y. h c b (inr x) y))
+
+-- A map that carries one relation to another, where it does so on the members of the list.
+pub ordered-map : {A B : Type 0} (R : A → A → Type 0) (S : B → B → Type 0) (f : A → B) (l : List A)
+    → ((a b : A) → Mem a l → Mem b l → R a b → S (f a) (f b)) → Ordered R l → Ordered S (map f l)
+ordered-map R S f [] h p = tt
+ordered-map R S f (a ∷ l) h p = (
+  λ y k. let u = map-mem f l y k in subst (S (f a)) (sym (u .2)) (h a (u .0) (inl refl) (inr (u .1)) (p .0 (u .0) (u .1))),
+  ordered-map R S f l (λ b c x y. h b c (inr x) (inr y)) (p .1),
+)
+
+pub select-rising : (f : ℕ → Bool) (k : ℕ) → Rising (select f k)
+unfolding select
+select-rising f zero = tt
+select-rising f (suc k) = cond-cases Rising (f k) (select f k ++ (k ∷ [])) (select f k)
+    (λ e. ordered-append _<_ (select f k) (k ∷ []) (select-rising f k) (λ b m. absurd m, tt)
+    (λ a b x y. elim y [ inl q ↦ rw q (select-mem f k a x .0) | inr z ↦ absurd z ])) (λ e. select-rising f k)

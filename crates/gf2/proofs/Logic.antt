@@ -38,6 +38,14 @@ pub and-i : (a b : Bool) → a ≡ true → b ≡ true → a && b ≡ true
 and-i a b p q = rw (p, q)
 
 -- Disjunction.
+pub or-l : (a b : Bool) → a ≡ true → a || b ≡ true
+or-l true b e = refl
+or-l false b e = clash refl (sym e)
+
+pub or-r : (a b : Bool) → b ≡ true → a || b ≡ true
+or-r true b e = refl
+or-r false b e = e
+
 pub or-cases : (a b : Bool) → a || b ≡ true → (a ≡ true) ⊎ (b ≡ true)
 or-cases true b e = inl refl
 or-cases false b e = inr e

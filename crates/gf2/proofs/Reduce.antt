@@ -94,8 +94,12 @@ lead-room : (n k : ℕ) (bs : List ℕ) → k ≤ n → Reduced bs → ((c : ℕ
 lead-room n k [] l r h = omega arith
 lead-room n k (b ∷ bs) l r h =
     let low = h b (inl refl) in
-    omega (arith, low .1, lead-room n (suc (lead b)) bs (lead-fits n b (r .0) (low .0)) (r .2)
-    (λ c m. (h c (inr m) .0, lead-rise b c (r .0) (r .1 c m .rises) (r .1 c m .lower))))
+    omega (
+      arith,
+      low .1,
+      lead-room n (suc (lead b)) bs (lead-fits n b (r .0) (low .0)) (r .2)
+          (λ c m. (h c (inr m) .0, lead-rise b c (r .0) (r .1 c m .rises) (r .1 c m .lower))),
+    )
 
 pub reduced-length : (n : ℕ) (bs : List ℕ) → Reduced bs → ((c : ℕ) → Mem c bs → c < 2 ^ n) → length bs ≤ n
 reduced-length n bs r h = omega (arith, lead-room n 0 bs (omega arith) r (λ c m. (h c m, omega arith)))

@@ -1,19 +1,21 @@
--- Laws of the lead places and of the lists of canonical and noncanonical variables.
-use mathlib.Core.Path.{_≡_, refl, sym, ap, ap₂, _∙_}
-use mathlib.Core.Bool.{Bool, true, false, not, _&&_, _||_}
+-- Laws of the lead places and of the canonical and noncanonical variables.
+use mathlib.Core.Path.{_≡_, refl, sym, ap, ap₂, _∙_, subst}
+use mathlib.Core.Bool.{Bool, true, false, not, cond, _||_}
 use mathlib.Core.Logic.{_⊎_, inl, inr, _≢_}
 use mathlib.Core.List.{List, [], _∷_}
-use Prim.Native.Nat.{ℕ, zero, suc, _^_, _≤_, _<_}
+use Prim.Native.Nat.{ℕ, zero, suc, _+_, _^_, _≤_, _<_}
+use native.Mathlib.Nat.{lt-suc-self}
+use native.Mathlib.Decide.{ℕ-discrete}
 use native.Mathlib.Omega.{arith}
-use lib.Dec.{ltb, eqb}
-use borrow.Author.Tests.{ltb-true, lt-ltb, eqb-true, eqb-false, eq-eqb}
-use Rattle.gf2.specs.Bits.{_⊕_, _⊻_, bit, lead, placeOf}
-use Rattle.gf2.specs.Finite.{Mem, select}
-use Rattle.gf2.specs.Basis.{Reduced, isLead, leadMask, variablesAt}
-use Rattle.gf2.proofs.Logic.{clash, and-l, and-r, and-i, or-cases, or-none}
-use Rattle.gf2.proofs.Finite.{select-mem, mem-select}
+use lib.ListN.{length}
+use lib.Dec.{eqb}
+use borrow.Author.Tests.{eqb-true, eqb-false, eq-eqb, ne-eqb}
+use Rattle.gf2.specs.Bits.{_⊕_, _⊻_, bit, lead}
+use Rattle.gf2.specs.Finite.{Mem, Ordered}
+use Rattle.gf2.specs.Basis.{Reduced, isLead, leadMask, placesAt, canonicalPlaces, noncanonicalPlaces}
+use Rattle.gf2.proofs.Logic.{clash, cond-cases, or-cases, or-none}
 use Rattle.gf2.proofs.Xor.{bit-xor, bit-zero, bit-pow}
-use Rattle.gf2.proofs.Leads.{lead-rise}
+use Rattle.gf2.proofs.Leads.{lead-rise, lead-fits}
 
 -- ---- the leads of a list
 
@@ -30,31 +32,100 @@ unfolding isLead
 isLead-off (b ∷ bs) k e c (inl q) h = eqb-false (lead b) k (or-none (eqb (lead b) k) (isLead bs k) e .0) (sym (ap lead q) ∙ h)
 isLead-off (b ∷ bs) k e c (inr m) h = isLead-off bs k (or-none (eqb (lead b) k) (isLead bs k) e .1) c m h
 
--- ---- variables by index
+-- ---- places, the highest first
 
--- xi is in the list exactly if it is one of x1 .. xn and its place passes the test.
-pub variables-mem : (n : ℕ) (q : ℕ → Bool) (i : ℕ) → Mem i (variablesAt n q) → (0 < i) × (i ≤ n) × (q (placeOf n i) ≡ true)
-unfolding variablesAt
-variables-mem n q i m =
-    let h = select-mem (λ i. ltb 0 i && q (placeOf n i)) (suc n) i m in
-    (ltb-true 0 i (and-l (ltb 0 i) (q (placeOf n i)) (h .1)), omega (arith, h .0), and-r (ltb 0 i) (q (placeOf n i)) (h .1))
+pub places-mem : (q : ℕ → Bool) (n k : ℕ) → Mem k (placesAt n q) → (k < n) × (q k ≡ true)
+unfolding placesAt
+places-mem q zero k m = absurd m
+places-mem q (suc n) k m = cond-cases (λ l. Mem k l → (k < suc n) × (q k ≡ true)) (q n) (n ∷ placesAt n q) (placesAt n q)
+    (λ e i. elim i [ inl z ↦ rw z (lt-suc-self n, e) | inr j ↦ let h = places-mem q n k j in (omega (arith, h .0), h .1) ])
+    (λ e i. let h = places-mem q n k i in (omega (arith, h .0), h .1)) m
 
-pub mem-variables : (n : ℕ) (q : ℕ → Bool) (i : ℕ) → 0 < i → i ≤ n → q (placeOf n i) ≡ true → Mem i (variablesAt n q)
-unfolding variablesAt
-mem-variables n q i p h e =
-    mem-select (λ i. ltb 0 i && q (placeOf n i)) (suc n) i (omega arith) (and-i (ltb 0 i) (q (placeOf n i)) (lt-ltb 0 i p) e)
+pub mem-places : (q : ℕ → Bool) (n k : ℕ) → k < n → q k ≡ true → Mem k (placesAt n q)
+unfolding placesAt
+mem-places q zero k h e = absurd (omega arith)
+mem-places q (suc n) k h e = go (ℕ-discrete k n) (mem-places q n k)
+  where
+    go : Dec (k ≡ n) → (k < n → q k ≡ true → Mem k (placesAt n q)) → Mem k (cond (q n) (n ∷ placesAt n q) (placesAt n q))
+    go (yes z) f = rw (subst (λ (z : ℕ). q z ≡ true) z e) (inl z)
+    go (no z) f = cond-cases (Mem k) (q n) (n ∷ placesAt n q) (placesAt n q) (λ c. inr (f (omega arith) e)) (λ c. f (omega arith) e)
+
+-- Falling places, and so rising indices.
+pub places-falling : (q : ℕ → Bool) (n : ℕ) → Ordered (λ (a b : ℕ). b < a) (placesAt n q)
+unfolding placesAt
+places-falling q zero = tt
+places-falling q (suc n) = cond-cases (Ordered (λ (a b : ℕ). b < a)) (q n) (n ∷ placesAt n q) (placesAt n q)
+    (λ c. (λ b m. places-mem q n b m .0, places-falling q n)) (λ c. places-falling q n)
+
+-- A place passes the test or its negation.
+pub places-count : (q : ℕ → Bool) (n : ℕ) → length (placesAt n (λ k. not (q k))) + length (placesAt n q) ≡ n
+unfolding placesAt
+places-count q zero = refl
+places-count q (suc n) = go (q n) (places-count q n)
+  where
+    go : (t : Bool) → length (placesAt n (λ k. not (q k))) + length (placesAt n q) ≡ n
+        → length (cond (not t) (n ∷ placesAt n (λ k. not (q k))) (placesAt n (λ k. not (q k)))) + length (cond t (n ∷ placesAt n q) (placesAt n q)) ≡ suc n
+    go true e = omega arith
+    go false e = omega arith
+
+-- ---- of n variables, as many are canonical as the basis has vectors
+
+leads-over : (b : ℕ) (bs : List ℕ) (n : ℕ) → n ≤ lead b → length (canonicalPlaces n (b ∷ bs)) ≡ length (canonicalPlaces n bs)
+unfolding placesAt isLead
+leads-over b bs zero h = refl
+leads-over b bs (suc n) h = rw (ne-eqb (lead b) n (λ q. omega arith)) (go (isLead bs n) (leads-over b bs n (omega arith)))
+  where
+    go : (t : Bool) → length (canonicalPlaces n (b ∷ bs)) ≡ length (canonicalPlaces n bs)
+        → length (cond t (n ∷ canonicalPlaces n (b ∷ bs)) (canonicalPlaces n (b ∷ bs))) ≡ length (cond t (n ∷ canonicalPlaces n bs) (canonicalPlaces n bs))
+    go true e = ap suc e
+    go false e = e
+
+leads-under : (b : ℕ) (bs : List ℕ) (n : ℕ) → lead b < n → isLead bs (lead b) ≡ false → length (canonicalPlaces n (b ∷ bs)) ≡ suc (length (canonicalPlaces n bs))
+unfolding placesAt isLead
+leads-under b bs zero h c = absurd (omega arith)
+leads-under b bs (suc n) h c = go (ℕ-discrete (lead b) n) (leads-under b bs n)
+  where
+    mid : (t : Bool) → length (canonicalPlaces n (b ∷ bs)) ≡ suc (length (canonicalPlaces n bs))
+        → length (cond t (n ∷ canonicalPlaces n (b ∷ bs)) (canonicalPlaces n (b ∷ bs))) ≡ suc (length (cond t (n ∷ canonicalPlaces n bs) (canonicalPlaces n bs)))
+    mid true e = ap suc e
+    mid false e = e
+
+    go : Dec (lead b ≡ n) → (lead b < n → isLead bs (lead b) ≡ false → length (canonicalPlaces n (b ∷ bs)) ≡ suc (length (canonicalPlaces n bs)))
+        → length (cond (eqb (lead b) n || isLead bs n) (n ∷ canonicalPlaces n (b ∷ bs)) (canonicalPlaces n (b ∷ bs))) ≡ suc (length (cond (isLead bs n) (n ∷ canonicalPlaces n bs) (canonicalPlaces n bs)))
+    go (yes q) f = rw (eq-eqb (lead b) n q, subst (λ (z : ℕ). isLead bs z ≡ false) q c) (ap suc (leads-over b bs n (omega arith)))
+    go (no q) f = rw (ne-eqb (lead b) n q) (mid (isLead bs n) (f (omega arith) c))
+
+leads-none : (n : ℕ) → length (canonicalPlaces n []) ≡ 0
+unfolding placesAt isLead
+leads-none zero = refl
+leads-none (suc n) = leads-none n
+
+-- The first lead of a reduced basis is no lead of the others.
+pub first-lead : (b : ℕ) (bs : List ℕ) → Reduced (b ∷ bs) → isLead bs (lead b) ≡ false
+first-lead b bs r = go (isLead bs (lead b)) refl
+  where
+    go : (t : Bool) → isLead bs (lead b) ≡ t → t ≡ false
+    go false e = refl
+    go true e =
+        let c = isLead-at bs (lead b) e in
+        let a = r .1 (c .0) (c .1) in
+        absurd (omega (arith, c .2, lead-rise b (c .0) (r .0) (a .rises) (a .lower)))
+
+pub canonical-length : (n : ℕ) (bs : List ℕ) → Reduced bs → ((c : ℕ) → Mem c bs → c < 2 ^ n) → length (canonicalPlaces n bs) ≡ length bs
+canonical-length n [] r h = leads-none n
+canonical-length n (b ∷ bs) r h =
+    leads-under b bs n (lead-fits n b (r .0) (h b (inl refl))) (first-lead b bs r) ∙ ap suc (canonical-length n bs (r .2) (λ c m. h c (inr m)))
+
+pub noncanonical-length : (n : ℕ) (bs : List ℕ) → Reduced bs → ((c : ℕ) → Mem c bs → c < 2 ^ n) → length (noncanonicalPlaces n bs) + length bs ≡ n
+noncanonical-length n bs r h = omega (arith, places-count (isLead bs) n, canonical-length n bs r h)
 
 -- ---- the leads as one mask
 
 pub bit-leadMask : (bs : List ℕ) → Reduced bs → (k : ℕ) → bit k (leadMask bs) ≡ isLead bs k
 unfolding leadMask isLead
 bit-leadMask [] r k = bit-zero k
-bit-leadMask (b ∷ bs) r k = bit-xor k (2 ^ lead b) (leadMask bs) ∙ ap₂ _⊻_ (bit-pow (lead b) k) (bit-leadMask bs (r .2) k) ∙ go (eqb (lead b) k) refl (isLead bs k) refl
+bit-leadMask (b ∷ bs) r k = bit-xor k (2 ^ lead b) (leadMask bs) ∙ ap₂ _⊻_ (bit-pow (lead b) k) (bit-leadMask bs (r .2) k) ∙ go (eqb (lead b) k) refl
   where
-    go : (s : Bool) → eqb (lead b) k ≡ s → (t : Bool) → isLead bs k ≡ t → s ⊻ t ≡ s || t
-    go true e true q =
-        let c = isLead-at bs k q in
-        let a = r .1 (c .0) (c .1) in
-        absurd (omega (arith, eqb-true (lead b) k e, c .2, lead-rise b (c .0) (r .0) (a .rises) (a .lower)))
-    go true e false q = refl
-    go false e t q = refl
+    go : (t : Bool) → eqb (lead b) k ≡ t → t ⊻ isLead bs k ≡ t || isLead bs k
+    go true e = rw (← (eqb-true (lead b) k e), first-lead b bs r)
+    go false e = refl

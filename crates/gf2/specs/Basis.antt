@@ -5,7 +5,7 @@ use mathlib.Core.Bool.{Bool, true, false, not, cond, _&&_, _||_}
 use mathlib.Core.List.{List, [], _∷_, _++_, map}
 use Prim.Native.Nat.{ℕ, zero, suc, _^_, _<_}
 use lib.Dec.{ltb, eqb}
-use Rattle.gf2.specs.Bits.{_⊕_, lead, hasLead, placeOf}
+use Rattle.gf2.specs.Bits.{_⊕_, lead, hasLead, indexOf}
 use Rattle.gf2.specs.Finite.{Mem, all, select}
 
 -- Two vectors of a reduced basis, b before c: they rise, and neither has the other's lead bit.
@@ -74,13 +74,17 @@ unfoldable pub leadMask : List ℕ → ℕ
 leadMask [] = 0
 leadMask (b ∷ bs) = 2 ^ lead b ⊕ leadMask bs
 
--- The variables of n whose place passes the test, by index, rising.
-unfoldable pub variablesAt : ℕ → (ℕ → Bool) → List ℕ
-variablesAt n q = select (λ i. ltb 0 i && q (placeOf n i)) (suc n)
+-- The places below n that pass the test, the highest first: so their variables stand in index order.
+unfoldable pub placesAt : ℕ → (ℕ → Bool) → List ℕ
+placesAt zero q = []
+placesAt (suc k) q = cond (q k) (k ∷ placesAt k q) (placesAt k q)
 
--- The canonical variables of a basis are the lead variables, the noncanonical ones the rest.
-abbrev pub canonicalVariables : ℕ → List ℕ → List ℕ
-canonicalVariables n bs = variablesAt n (isLead bs)
+-- The canonical variables of a basis are its lead variables, the noncanonical ones the rest: their places, and their indices.
+abbrev pub canonicalPlaces : ℕ → List ℕ → List ℕ
+canonicalPlaces n bs = placesAt n (isLead bs)
 
-abbrev pub noncanonicalVariables : ℕ → List ℕ → List ℕ
-noncanonicalVariables n bs = variablesAt n (λ k. not (isLead bs k))
+abbrev pub noncanonicalPlaces : ℕ → List ℕ → List ℕ
+noncanonicalPlaces n bs = placesAt n (λ k. not (isLead bs k))
+
+abbrev pub variablesAt : ℕ → List ℕ → List ℕ
+variablesAt n ks = map (indexOf n) ks

@@ -1,5 +1,5 @@
 -- The bits of a number: XOR, the bit at a place, and the lead. Place 0 is the lowest bit.
--- Of n variables x1 .. xn, x1 is the highest bit of a point and xn the lowest, so variable xi stands at place n - i. Read next: Parity.
+-- Of n variables x1 .. xn, x1 is the highest bit of a point and xn the lowest, so the variable at place k is x(n - k). Read next: Parity.
 use mathlib.Core.Path.{_≡_}
 use mathlib.Core.Bool.{Bool, true, false, not}
 use Prim.Native.Nat.{ℕ, zero, suc, _-_, _/_, _%_, _<_}
@@ -8,7 +8,6 @@ use lib.Dec.{eqb}
 
 infixl 65 _⊕_
 infixl 30 _⊻_
-
 -- XOR of two numbers. That it is the XOR of their bits, place by place, is `bit-xor`.
 abbrev pub _⊕_ : ℕ → ℕ → ℕ
 _⊕_ = bitXor
@@ -23,9 +22,9 @@ unfoldable pub bit : ℕ → ℕ → Bool
 bit zero x = eqb (x % 2) 1
 bit (suc k) x = bit k (x / 2)
 
--- The place of variable xi among n (document 01, "Points and spaces"), and, by the same rule, the index of the variable at a place.
-abbrev pub placeOf : ℕ → ℕ → ℕ
-placeOf n i = n - i
+-- The index of the variable at place k of a point of n variables: x1 is the highest bit (document 01, "Points and spaces").
+abbrev pub indexOf : ℕ → ℕ → ℕ
+indexOf n k = n - k
 
 -- k is the place of the highest set bit of v.
 pub record Highest (k v : ℕ) : Type 0 where
