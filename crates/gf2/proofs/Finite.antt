@@ -9,6 +9,7 @@ use native.Mathlib.Decide.{decLe, ℕ-discrete}
 use native.Mathlib.Omega.{arith}
 use borrow.Author.Tests.{not-true, not-false, eqb-true, eq-eqb}
 use lib.Dec.{eqb}
+use lib.ListN.{length, getD, drop}
 use Rattle.gf2.specs.Finite.{Mem, holds, Ordered, Rising, all, select}
 use Rattle.gf2.proofs.Logic.{clash, and-l, and-r, and-i, or-l, or-r, or-cases, cond-cases}
 
@@ -57,6 +58,15 @@ least f = below-ind (λ (n : ℕ). f n ≡ true → (m : ℕ) × (m ≤ n) × (f
         (m .0, omega (arith, k .1, m .1), m .2, m .3)
 
 -- ---- members of a list
+pub cons-all : {A : Type 0} (P : A → Type 0) (a : A) (l : List A) → P a → ((b : A) → Mem b l → P b) → (b : A) → Mem b (a ∷ l) → P b
+cons-all P a l p h b (inl e) = rw e p
+cons-all P a l p h b (inr m) = h b m
+
+pub drop-mem : {A : Type 0} (i : ℕ) (l : List A) (x : A) → Mem x (drop i l) → Mem x l
+drop-mem zero l x m = m
+drop-mem (suc i) [] x m = absurd m
+drop-mem (suc i) (a ∷ l) x m = inr (drop-mem i l x m)
+
 pub mem-snoc : {A : Type 0} (d : A) (bs : List A) (v : A) → Mem d (bs ++ (v ∷ [])) → Mem d bs ⊎ (d ≡ v)
 mem-snoc d [] v (inl e) = inr e
 mem-snoc d [] v (inr m) = absurd m
@@ -77,6 +87,11 @@ map-mem f (b ∷ bs) y (inr m) = let h = map-mem f bs y m in (h .0, inr (h .1), 
 pub mem-map : {A B : Type 0} (f : A → B) (bs : List A) (x : A) → Mem x bs → Mem (f x) (map f bs)
 mem-map f (b ∷ bs) x (inl e) = inl (ap f e)
 mem-map f (b ∷ bs) x (inr m) = inr (mem-map f bs x m)
+
+pub getD-mem : {A : Type 0} (l : List A) (i : ℕ) (d : A) → i < length l → Mem (getD l i d) l
+getD-mem [] i d h = absurd (omega arith)
+getD-mem (a ∷ l) zero d h = inl refl
+getD-mem (a ∷ l) (suc i) d h = inr (getD-mem l i d (le-of-suc-le-suc h))
 
 -- ---- members of a selection
 pub select-mem : (f : ℕ → Bool) (k d : ℕ) → Mem d (select f k) → (d < k) × (f d ≡ true)

@@ -2,21 +2,22 @@
 -- Read next: ReducedBasis.
 use mathlib.Core.Path.{_≡_, refl, sym, ap, _∙_, subst}
 use mathlib.Core.Bool.{Bool, true, false, cond}
-use mathlib.Core.Logic.{_⊎_, inl, inr, _↔_}
+use mathlib.Core.Logic.{_⊎_, inl, inr, _≢_, _↔_}
 use mathlib.Core.List.{List, [], _∷_, _++_, map}
-use Prim.Native.Nat.{ℕ, zero, suc, _^_, _≤_, _<_}
+use Prim.Native.Nat.{ℕ, zero, suc, _^_, _≤_, _<_, min, max}
 use native.Mathlib.Nat.{pos-of-ne-zero}
 use native.Mathlib.Omega.{arith}
 use lib.Arith.{lt-of-le-ne}
 use lib.Dec.{ltb, eqb}
+use lib.ListN.{length, length-map}
 use lib.Bits.{xor-comm}
-use borrow.Author.Tests.{ltb-true, ltb-false, eqb-true, eqb-false, lt-ltb, eq-eqb}
+use borrow.Author.Tests.{ltb-true, ltb-false, eqb-true, eqb-false, lt-ltb, eq-eqb, ne-eqb}
 use Rattle.gf2.specs.Bits.{_⊕_, lead, hasLead}
 use Rattle.gf2.specs.Finite.{Mem}
 use Rattle.gf2.specs.Span.{Span, Space}
 use Rattle.gf2.specs.Basis.{Apart, Reduced, clear, reduce, place, join, insert, inserts}
 use Rattle.gf2.proofs.Logic.{cond-cases}
-use Rattle.gf2.proofs.Finite.{map-mem, mem-map}
+use Rattle.gf2.proofs.Finite.{cons-all, map-mem, mem-map}
 use Rattle.gf2.proofs.Xor.{xor-cancel}
 use Rattle.gf2.proofs.Leads.{Lead, lead-is, lead-pos, lead-xor, lead-eq, lead-below, lead-lt, lead-rise, lead-under, hasLead-ne}
 use Rattle.gf2.proofs.Span.{span-mem, span-xor, span-space, span-least, span-below, span-exchange}
@@ -47,6 +48,33 @@ mem-place r (c ∷ cs) d m = place-cases (Mem d) r c cs (λ h. m) (λ h. go (mem
     go f (inl e) = inr (f (inl e))
     go f (inr (inl e)) = inl e
     go f (inr (inr k)) = inr (f (inr k))
+
+pub place-length : (r : ℕ) (cs : List ℕ) → length (place r cs) ≡ suc (length cs)
+unfolding place
+place-length r [] = refl
+place-length r (c ∷ cs) = place-cases (λ l. length l ≡ suc (suc (length cs))) r c cs (λ h. refl) (λ h. ap suc (place-length r cs))
+
+-- A vector at or below all of a list goes to its front.
+place-front : (x : ℕ) (xs : List ℕ) → ((c : ℕ) → Mem c xs → x < c) → place x xs ≡ x ∷ xs
+unfolding place
+place-front x [] h = refl
+place-front x (y ∷ ys) h = rw (lt-ltb x y (h y (inl refl)))
+
+-- Placing as a loop does it: the smaller vector stays, the larger is carried on.
+pub place-step : (r x : ℕ) (xs : List ℕ) → ((c : ℕ) → Mem c xs → x < c) → place r (x ∷ xs) ≡ min r x ∷ place (max r x) xs
+place-step r x xs h = place-cases (λ l. l ≡ min r x ∷ place (max r x) xs) r x xs before after
+  where
+    before : r < x → r ∷ x ∷ xs ≡ min r x ∷ place (max r x) xs
+    before l =
+        let a : min r x ≡ r = omega arith in
+        let b : max r x ≡ x = omega arith in
+        rw (a, b, place-front x xs h)
+
+    after : x ≤ r → x ∷ place r xs ≡ min r x ∷ place (max r x) xs
+    after l =
+        let a : min r x ≡ x = omega arith in
+        let b : max r x ≡ r = omega arith in
+        rw (a, b)
 
 -- ---- the result is reduced
 
@@ -93,7 +121,7 @@ place-reduced r p (c ∷ cs) h s = place-cases Reduced r c cs
     after l d (inl e) = rw e (apart c r (s .0) (lt-of-le-ne l (hasLead-ne c r (s .0) (h c (inl refl) .0))) (h c (inl refl) .0))
     after l d (inr m) = s .1 d m
 
-join-reduced : (r : ℕ) → 0 < r → (bs : List ℕ) → ((c : ℕ) → Mem c bs → hasLead c r ≡ false) → Reduced bs → Reduced (join r bs)
+pub join-reduced : (r : ℕ) → 0 < r → (bs : List ℕ) → ((c : ℕ) → Mem c bs → hasLead c r ≡ false) → Reduced bs → Reduced (join r bs)
 unfolding join
 join-reduced r p bs h s = place-reduced r p (map (clear r) bs) (λ c m. cleared c (map-mem (clear r) bs c m)) (clear-reduced r p bs h s)
   where
@@ -109,6 +137,10 @@ insert-cases P bs v f g = cond-cases P (eqb (reduce bs v) 0) bs (join (reduce bs
 
 pub insert-reduced : (bs : List ℕ) (v : ℕ) → Reduced bs → Reduced (insert bs v)
 insert-reduced bs v s = insert-cases Reduced bs v (λ e. s) (λ p. join-reduced (reduce bs v) p bs (hasLead-reduce bs s v) s)
+
+pub join-length : (r : ℕ) (bs : List ℕ) → length (join r bs) ≡ suc (length bs)
+unfolding join
+join-length r bs = place-length r (map (clear r) bs) ∙ ap suc (length-map bs (clear r))
 
 -- ---- and its span is that of the basis and the vector
 
@@ -163,13 +195,16 @@ pub insert-known : (bs : List ℕ) (v : ℕ) → Reduced bs → Span bs v → in
 unfolding insert
 insert-known bs v r p = rw (eq-eqb (reduce bs v) 0 (span-reduce bs r v p))
 
+pub insert-new : (bs : List ℕ) (v : ℕ) → reduce bs v ≢ 0 → insert bs v ≡ join (reduce bs v) bs
+unfolding insert
+insert-new bs v n = rw (ne-eqb (reduce bs v) 0 n)
+
 -- Vectors below 2 ^ n stay so.
+pub join-below : (n r : ℕ) (bs : List ℕ) → ((c : ℕ) → Mem c bs → c < 2 ^ n) → r < 2 ^ n → (c : ℕ) → Mem c (join r bs) → c < 2 ^ n
+join-below n r bs h l c m = span-below n (r ∷ bs) (cons-all (λ d. d < 2 ^ n) r bs l h) c (join-span r bs c .0 (span-mem (join r bs) c m))
+
 pub insert-below : (n : ℕ) (bs : List ℕ) (v : ℕ) → ((c : ℕ) → Mem c bs → c < 2 ^ n) → v < 2 ^ n → (c : ℕ) → Mem c (insert bs v) → c < 2 ^ n
-insert-below n bs v h l c m = span-below n (v ∷ bs) given c (insert-span bs v c .0 (span-mem (insert bs v) c m))
-  where
-    given : (d : ℕ) → Mem d (v ∷ bs) → d < 2 ^ n
-    given d (inl e) = rw e l
-    given d (inr k) = h d k
+insert-below n bs v h l c m = span-below n (v ∷ bs) (cons-all (λ d. d < 2 ^ n) v bs l h) c (insert-span bs v c .0 (span-mem (insert bs v) c m))
 
 -- ---- many vectors, one at a time
 

@@ -13,3 +13,4 @@ pub mod Unique
 pub mod Insert
 pub mod ReducedBasis
 pub mod Variables
+pub mod Examples

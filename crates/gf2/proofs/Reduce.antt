@@ -7,7 +7,7 @@ use mathlib.Core.List.{List, [], _∷_}
 use Prim.Native.Nat.{ℕ, zero, suc, _+_, _^_, _≤_, _<_}
 use native.Mathlib.Nat.{le-refl, le-trans}
 use native.Mathlib.Omega.{arith}
-use lib.ListN.{length}
+use lib.ListN.{length, drop}
 use lib.Pow.{pow-pos, pow-mono}
 use lib.Dec.{ltb, eqb}
 use lib.Bits.{xor-comm, xor-self, xor-zero-r}
@@ -88,6 +88,12 @@ apart b c p h e = record {
 pub reduced-pos : (bs : List ℕ) → Reduced bs → (c : ℕ) → Mem c bs → 0 < c
 reduced-pos (b ∷ bs) s c (inl e) = rw e (s .0)
 reduced-pos (b ∷ bs) s c (inr m) = reduced-pos bs (s .2) c m
+
+-- The vectors from the i-th on are a reduced basis too.
+pub reduced-drop : (i : ℕ) (bs : List ℕ) → Reduced bs → Reduced (drop i bs)
+reduced-drop zero bs r = r
+reduced-drop (suc i) [] r = tt
+reduced-drop (suc i) (b ∷ bs) r = reduced-drop i bs (r .2)
 
 -- The leads rise too, so below 2 ^ n there are at most n vectors.
 lead-room : (n k : ℕ) (bs : List ℕ) → k ≤ n → Reduced bs → ((c : ℕ) → Mem c bs → (c < 2 ^ n) × (k ≤ lead c)) → length bs + k ≤ n

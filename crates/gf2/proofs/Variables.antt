@@ -50,6 +50,12 @@ mem-places q (suc n) k h e = go (ℕ-discrete k n) (mem-places q n k)
     go (yes z) f = rw (subst (λ (z : ℕ). q z ≡ true) z e) (inl z)
     go (no z) f = cond-cases (Mem k) (q n) (n ∷ placesAt n q) (placesAt n q) (λ c. inr (f (omega arith) e)) (λ c. f (omega arith) e)
 
+-- Tests that agree below n give the same places.
+pub places-ext : (p q : ℕ → Bool) (n : ℕ) → ((k : ℕ) → k < n → p k ≡ q k) → placesAt n p ≡ placesAt n q
+unfolding placesAt
+places-ext p q zero h = refl
+places-ext p q (suc n) h = rw (h n (lt-suc-self n), places-ext p q n (λ k l. h k (omega arith)))
+
 -- Falling places, and so rising indices.
 pub places-falling : (q : ℕ → Bool) (n : ℕ) → Ordered (λ (a b : ℕ). b < a) (placesAt n q)
 unfolding placesAt

@@ -3,14 +3,14 @@
 use mathlib.Core.Path.{_≡_, refl, sym, ap, _∙_}
 use mathlib.Core.Bool.{Bool, true, false, not, _&&_}
 use mathlib.Core.Logic.{_≢_}
-use Prim.Native.Nat.{ℕ, zero, suc, _/_, _%_, _^_, _≤_, _<_}
+use Prim.Native.Nat.{ℕ, zero, suc, _-_, _/_, _%_, _^_, _≤_, _<_}
 use native.Mathlib.Nat.{div-one, le-of-suc-le-suc, lt-of-not-le, mod-lt, zero-lt-suc}
 use native.Mathlib.Numerals.{one-add}
 use native.Mathlib.Decide.{decLe}
 use native.Mathlib.Omega.{arith}
 use lib.Arith.{bin-ind}
 use lib.Dec.{eqb, eqb·zero-suc, eqb·suc-zero, eqb·suc-suc}
-use lib.Pow.{pow-mono, shr-shr}
+use lib.Pow.{pow-mono, pow-pos, shr-shr}
 use lib.Bits.{bitAnd, and-shr, and-mod, xor-comm, xor-self, xor-zero-l, xor-zero-r, xor-shr, xor-mod}
 use borrow.Author.Tests.{eq-eqb, ne-eqb}
 use Rattle.gf2.specs.Bits.{_⊕_, _⊻_, bit}
@@ -79,6 +79,15 @@ bit-pow-self j = bit-pow j j ∙ eq-eqb j j refl
 
 pub bit-pow-other : (j k : ℕ) → j ≢ k → bit k (2 ^ j) ≡ false
 bit-pow-other j k h = bit-pow j k ∙ ne-eqb j k h
+
+-- The number of all n bits.
+pub bit-ones : (n k : ℕ) → k < n → bit k (2 ^ n - 1) ≡ true
+unfolding bit
+bit-ones zero k h = absurd (omega arith)
+bit-ones (suc n) zero h = let e : (2 ^ suc n - 1) % 2 ≡ 1 = omega (arith, pow-pos n) in rw e
+bit-ones (suc n) (suc k) h =
+    let e : (2 ^ suc n - 1) / 2 ≡ 2 ^ n - 1 = omega (arith, pow-pos n) in
+    rw e (bit-ones n k (le-of-suc-le-suc h))
 
 -- ---- two numbers with the same bits are equal
 

@@ -2,7 +2,7 @@
 // and the step that clears a lead bit. What the words mean is in specs/, the laws about them in proofs/. Read next: crate `basis`.
 ghost use mathlib.Core.Path.{_≡_};
 ghost use Prim.Native.Nat.{_<_};
-ghost use Rattle.gf2.specs.Bits.{lead};
+ghost use Rattle.gf2.specs.Bits.{bit, lead};
 ghost use Rattle.gf2.specs.Parity.{odd};
 ghost use Rattle.gf2.specs.Basis.{clear};
 
@@ -11,6 +11,14 @@ pub const MAX_VARIABLES: usize = 12;
 
 // The highest place of a 16-bit number, in which points and vectors are held.
 const HIGHEST_PLACE: u32 = 15;
+
+// The bit of x at a place.
+pub fn bit(place: u32, x: u16) -> bool
+    requires { ⌜ place < 16 ⌝ }
+    ensures { λ r. ⌜ r ≡ bit place x ⌝ }
+{
+    (x >> place) % 2 == 1
+}
 
 // The place of the highest set bit of a vector that is not 0, by its count of leading zeros.
 pub fn lead(v: u16) -> u32

@@ -1,0 +1,110 @@
+-- `basis::variables_of` meets its contract: what is found, then the variables of the places below k, is the whole. Assumes nothing.
+use mathlib.Core.Path.{_≡_, refl, sym, ap, _∙_}
+use mathlib.Core.Bool.{Bool, true, false, cond}
+use mathlib.Core.List.{List, [], _∷_, _++_, map, append-assoc, append-nil}
+use Prim.Native.Nat.{ℕ, suc, _+_, _-_, _≤_, _<_}
+use native.Mathlib.Omega.{arith}
+use borrow.Author.Needs.{needs}
+use lib.ListN.{length, length-append}
+use Rattle.gf2.specs.Limits.{maxVariables}
+use Rattle.gf2.specs.Bits.{bit, indexOf}
+use Rattle.gf2.specs.Basis.{placesAt, variablesAt}
+use Rattle.basis.specs.declared.ShortList.{ShortList}
+use Rattle.basis.specs.Short.{listed, short}
+use Rattle.basis.proofs.Values.{short-listed, short-again, short-len}
+use Rattle.basis.proofs.variables_of.Statement.{statement}
+use Rattle.basis.proofs.variables_of.Tie as tie
+
+abbrev Inv-loop : tie.InvT-loop
+Inv-loop mask n found₀ k₀ found k =
+    (k ≤ n) × (found .len + k ≤ n) × (found ≡ short (listed found))
+    × (listed found ++ variablesAt n (placesAt k (λ (j : ℕ). bit j mask)) ≡ variablesAt n (placesAt n (λ (j : ℕ). bit j mask)))
+
+abbrev μ-loop : tie.MeasureT-loop
+μ-loop mask n found₀ k₀ found k = k
+
+loop-holds : tie.Need-loop-holds Inv-loop μ-loop
+loop-holds c = search needs
+
+sub-k : tie.Need-sub-k Inv-loop μ-loop
+sub-k c = search needs
+
+cast-bit : tie.Need-cast-bit Inv-loop μ-loop
+cast-bit c = search needs
+
+bit-requires : tie.Need-bit-requires Inv-loop μ-loop
+bit-requires c κs = search needs
+
+sub-push : tie.Need-sub-push Inv-loop μ-loop
+sub-push c = search needs
+
+cast-push : tie.Need-cast-push Inv-loop μ-loop
+cast-push c = search needs
+
+push-requires : tie.Need-push-requires Inv-loop μ-loop
+push-requires c κs = search needs
+
+loop-less : tie.Need-loop-less Inv-loop μ-loop
+loop-less c = search needs
+
+-- One place passed: its variable is next where the bit is set, and is left out where it is clear.
+module _ (n mask k : ℕ) (h : 0 < k) (done : List ℕ) where
+  abbrev q : ℕ → Bool
+  q j = bit j mask
+
+  step : (t : Bool) → q (k - 1) ≡ t → placesAt k q ≡ cond t ((k - 1) ∷ placesAt (k - 1) q) (placesAt (k - 1) q)
+  unfolding placesAt
+  step t e = let z : k ≡ suc (k - 1) = omega arith in ap (λ (j : ℕ). placesAt j q) z ∙ rw e
+
+  taken : q (k - 1) ≡ true → (done ++ ((n - (k - 1)) ∷ [])) ++ variablesAt n (placesAt (k - 1) q) ≡ done ++ variablesAt n (placesAt k q)
+  taken e = append-assoc done ((n - (k - 1)) ∷ []) (variablesAt n (placesAt (k - 1) q)) ∙ ap (λ l. done ++ variablesAt n l) (sym (step true e))
+
+  left : q (k - 1) ≡ false → done ++ variablesAt n (placesAt (k - 1) q) ≡ done ++ variablesAt n (placesAt k q)
+  left e = ap (λ l. done ++ variablesAt n l) (sym (step false e))
+
+loop-again : tie.Need-loop-again Inv-loop μ-loop
+loop-again c =
+    let l = c .before .before .before .before .loop in
+    let a = c .before .before .before .before .before .args in
+    let p = c .push in
+    let f = listed (l .found) ++ ((a .n - (l .k - 1)) ∷ []) in (
+      omega arith,
+      omega (arith, short-len (p .result) f (p .ensures), length-append (listed (l .found)) ((a .n - (l .k - 1)) ∷ []), short-len (l .found) (listed (l .found)) (l .inv .2)),
+      short-again (p .result) f (p .ensures),
+      rw (short-listed (p .result) f (p .ensures)) (taken (a .n) (a .mask) (l .k) (omega arith) (listed (l .found)) (sym (c .before .before .bit .ensures) ∙ c .before .if1 .taken) ∙ l .inv .3),
+    )
+
+loop-less-2 : tie.Need-loop-less-2 Inv-loop μ-loop
+loop-less-2 c = search needs
+
+loop-again-2 : tie.Need-loop-again-2 Inv-loop μ-loop
+loop-again-2 c =
+    let l = c .before .before .before .loop in
+    let a = c .before .before .before .before .args in
+    (omega arith, omega arith, l .inv .2, left (a .n) (a .mask) (l .k) (omega arith) (listed (l .found)) (sym (c .before .bit .ensures) ∙ c .if1 .left) ∙ l .inv .3)
+
+returns : tie.Need-returns Inv-loop μ-loop
+unfolding placesAt
+returns c =
+    let l = c .before .loop in
+    let z : l .k ≡ 0 = omega arith in
+    l .inv .2 ∙ ap short (sym (append-nil (listed (l .found))) ∙ (rw z at (l .inv .3)))
+
+pub variables-of-spec : {M : Type 1} → statement M
+variables-of-spec =
+    tie.close
+    (tie.spec
+    Inv-loop
+    μ-loop
+    loop-holds
+    sub-k
+    cast-bit
+    bit-requires
+    sub-push
+    cast-push
+    push-requires
+    loop-less
+    loop-again
+    loop-less-2
+    loop-again-2
+    returns)

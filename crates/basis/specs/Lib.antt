@@ -1,0 +1,3 @@
+-- What the values of this crate stand for. Read in this order.
+pub mod Short
+pub mod Reduced
