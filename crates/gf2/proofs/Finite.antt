@@ -2,16 +2,17 @@
 use mathlib.Core.Path.{_≡_, refl, sym, ap, _∙_, subst}
 use mathlib.Core.Bool.{Bool, true, false, not, cond, _&&_, _||_}
 use mathlib.Core.Logic.{_⊎_, inl, inr, _↔_}
-use mathlib.Core.List.{List, [], _∷_, _++_, map}
+use mathlib.Core.List.{List, [], _∷_, _++_, map, map-append}
 use Prim.Native.Nat.{ℕ, zero, suc, _+_, _≤_, _<_}
 use native.Mathlib.Nat.{le-refl, lt-of-not-le, eq-or-lt-of-le, le-of-suc-le-suc, suc-inj, not-suc-le-zero, lt-suc-self}
 use native.Mathlib.Decide.{decLe, ℕ-discrete}
 use native.Mathlib.Omega.{arith}
 use borrow.Author.Tests.{not-true, not-false, eqb-true, eq-eqb}
 use lib.Dec.{eqb}
-use lib.ListN.{length, getD, drop}
+use lib.ListN.{length, getD, drop, take, length-append}
 use Rattle.gf2.specs.Finite.{Mem, holds, Ordered, Rising, all, select}
 use Rattle.gf2.proofs.Logic.{clash, and-l, and-r, and-i, or-l, or-r, or-cases, cond-cases}
+use lib.Seq.{take-suc}
 
 -- ---- all numbers below a bound
 pub all-at : (f : ℕ → Bool) (n : ℕ) → all f n ≡ true → (i : ℕ) → i < n → f i ≡ true
@@ -155,3 +156,58 @@ select-rising f zero = tt
 select-rising f (suc k) = cond-cases Rising (f k) (select f k ++ (k ∷ [])) (select f k)
     (λ e. ordered-append _<_ (select f k) (k ∷ []) (select-rising f k) (λ b m. absurd m, tt)
     (λ a b x y. elim y [ inl q ↦ rw q (select-mem f k a x .0) | inr z ↦ absurd z ])) (λ e. select-rising f k)
+
+-- ---- one element more at the end of a list
+
+pub map-snoc : {A B : Type 0} (f : A → B) (l : List A) (a : A) → map f (l ++ (a ∷ [])) ≡ map f l ++ (f a ∷ [])
+map-snoc f l a = map-append f l (a ∷ [])
+
+pub map-take : {A B : Type 0} (f : A → B) (l : List A) (j : ℕ) (d : A) → j < length l → map f (take (suc j) l) ≡ map f (take j l) ++ (f (getD l j d) ∷ [])
+map-take f l j d h = ap (map f) (take-suc l j d h) ∙ map-snoc f (take j l) (getD l j d)
+
+-- ---- a selection, one number more, and how long it is
+
+pub select-on : (f : ℕ → Bool) (k : ℕ) → f k ≡ true → select f (suc k) ≡ select f k ++ (k ∷ [])
+unfolding select
+select-on f k e = rw e
+
+pub select-off : (f : ℕ → Bool) (k : ℕ) → f k ≡ false → select f (suc k) ≡ select f k
+unfolding select
+select-off f k e = rw e
+
+pub select-none : (f : ℕ → Bool) (k : ℕ) → ((x : ℕ) → x < k → f x ≡ false) → select f k ≡ []
+unfolding select
+select-none f zero h = refl
+select-none f (suc k) h = rw (h k (lt-suc-self k)) (select-none f k (λ x l. h x (omega arith)))
+
+pub select-length : (f : ℕ → Bool) (k : ℕ) → length (select f k) ≤ k
+unfolding select
+select-length f zero = omega arith
+select-length f (suc k) = cond-cases (λ l. length l ≤ suc k) (f k) (select f k ++ (k ∷ [])) (select f k)
+    (λ e. omega (arith, length-append (select f k) (k ∷ []), select-length f k)) (λ e. omega (arith, select-length f k))
+
+pub select-grows : (f : ℕ → Bool) (j k : ℕ) → j ≤ k → length (select f j) ≤ length (select f k)
+unfolding select
+select-grows f j zero h = let e : j ≡ 0 = omega arith in rw e (le-refl 0)
+select-grows f j (suc k) h = go (ℕ-discrete j (suc k)) (select-grows f j k)
+  where
+    go : Dec (j ≡ suc k) → (j ≤ k → length (select f j) ≤ length (select f k)) → length (select f j) ≤ length (select f (suc k))
+    go (yes e) g = rw e (le-refl (length (select f (suc k))))
+    go (no n) g = cond-cases (λ l. length (select f j) ≤ length l) (f k) (select f k ++ (k ∷ [])) (select f k)
+        (λ e. omega (arith, length-append (select f k) (k ∷ []), g (omega arith))) (λ e. g (omega arith))
+
+-- A rising list of numbers below k has at most k of them.
+rising-room : (l : List ℕ) (j k : ℕ) → j ≤ k → Rising l → ((x : ℕ) → Mem x l → (j ≤ x) × (x < k)) → j + length l ≤ k
+rising-room [] j k m r h = omega arith
+rising-room (x ∷ l) j k m r h =
+    let b = h x (inl refl) in
+    omega (arith, b .0, rising-room l (suc x) k (b .1) (r .1) (λ y i. (r .0 y i, h y (inr i) .1)))
+
+pub rising-length : (l : List ℕ) (k : ℕ) → Rising l → ((x : ℕ) → Mem x l → x < k) → length l ≤ k
+rising-length l k r h = omega (arith, rising-room l 0 k (omega arith) r (λ x m. (omega arith, h x m)))
+
+-- Tests that agree below the bound hold of all numbers below it alike.
+pub all-ext : (f g : ℕ → Bool) (k : ℕ) → ((x : ℕ) → x < k → f x ≡ g x) → all f k ≡ all g k
+unfolding all
+all-ext f g zero h = refl
+all-ext f g (suc k) h = rw (h k (lt-suc-self k), all-ext f g k (λ x l. h x (omega arith)))

@@ -13,15 +13,15 @@ use lib.ListN.{length, length-map}
 use lib.Bits.{xor-comm}
 use borrow.Author.Tests.{ltb-true, ltb-false, eqb-true, eqb-false, lt-ltb, eq-eqb, ne-eqb}
 use Rattle.gf2.specs.Bits.{_⊕_, lead, hasLead}
-use Rattle.gf2.specs.Finite.{Mem}
+use Rattle.gf2.specs.Finite.{Mem, select}
 use Rattle.gf2.specs.Span.{Span, Space}
 use Rattle.gf2.specs.Basis.{Apart, Reduced, clear, reduce, place, join, insert, inserts}
 use Rattle.gf2.proofs.Logic.{cond-cases}
-use Rattle.gf2.proofs.Finite.{cons-all, map-mem, mem-map}
+use Rattle.gf2.proofs.Finite.{cons-all, map-mem, mem-map, select-on, select-off}
 use Rattle.gf2.proofs.Xor.{xor-cancel}
 use Rattle.gf2.proofs.Leads.{Lead, lead-is, lead-pos, lead-xor, lead-eq, lead-below, lead-lt, lead-rise, lead-under, hasLead-ne}
 use Rattle.gf2.proofs.Span.{span-mem, span-xor, span-space, span-least, span-below, span-exchange}
-use Rattle.gf2.proofs.Reduce.{clear-cases, bit-clear, hasLead-clear, apart, reduced-pos, reduce-span, span-reduce, reduce-zero, hasLead-reduce}
+use Rattle.gf2.proofs.Reduce.{clear-cases, bit-clear, hasLead-clear, apart, reduced-pos, reduce-span, span-reduce, reduce-zero, hasLead-reduce, reduced-length}
 use Rattle.gf2.proofs.Unique.{unique}
 
 -- ---- placing a vector
@@ -252,3 +252,31 @@ inserts-order vs ws h = inserts-basis vs (inserts [] ws) (inserts-reduced [] ws 
   λ p. span-least (Span vs) (span-space vs) ws (λ v m. span-mem vs v (h v .1 m)) x (inserts-span ws x .0 p),
   λ p. inserts-span ws x .1 (span-least (Span ws) (span-space ws) vs (λ v m. span-mem ws v (h v .0 m)) x p),
 ))
+
+-- ---- the vectors below a bound that pass a test, put in one at a time
+
+pub inserts-on : (f : ℕ → Bool) (k : ℕ) → f k ≡ true → inserts [] (select f (suc k)) ≡ insert (inserts [] (select f k)) k
+inserts-on f k e = ap (inserts []) (select-on f k e) ∙ inserts-snoc [] (select f k) k
+
+pub inserts-off : (f : ℕ → Bool) (k : ℕ) → f k ≡ false → inserts [] (select f (suc k)) ≡ inserts [] (select f k)
+inserts-off f k e = ap (inserts []) (select-off f k e)
+
+-- A vector already in the space may be skipped, whether it is selected or not.
+pub inserts-skip : (f : ℕ → Bool) (k : ℕ) → Span (inserts [] (select f k)) k → inserts [] (select f (suc k)) ≡ inserts [] (select f k)
+inserts-skip f k s = go (f k) refl
+  where
+    go : (t : Bool) → f k ≡ t → inserts [] (select f (suc k)) ≡ inserts [] (select f k)
+    go true e = inserts-on f k e ∙ insert-known (inserts [] (select f k)) k (inserts-reduced [] (select f k) tt) s
+    go false e = inserts-off f k e
+
+-- So may the vector 0, and a loop may start at 1.
+pub inserts-one : (f : ℕ → Bool) → inserts [] (select f 1) ≡ []
+unfolding inserts select
+inserts-one f = inserts-skip f 0 refl
+
+-- The basis of vectors below 2 ^ n has only such vectors, so at most n of them.
+pub inserts-below : (n : ℕ) (vs : List ℕ) → ((v : ℕ) → Mem v vs → v < 2 ^ n) → (c : ℕ) → Mem c (inserts [] vs) → c < 2 ^ n
+inserts-below n vs h c m = span-below n vs h c (inserts-span vs c .0 (span-mem (inserts [] vs) c m))
+
+pub inserts-length : (n : ℕ) (vs : List ℕ) → ((v : ℕ) → Mem v vs → v < 2 ^ n) → length (inserts [] vs) ≤ n
+inserts-length n vs h = reduced-length n (inserts [] vs) (inserts-reduced [] vs tt) (inserts-below n vs h)

@@ -4,7 +4,7 @@ use mathlib.Core.Path.{_≡_, refl, sym, ap, ap₂, _∙_, subst}
 use mathlib.Core.Bool.{Bool, true, false}
 use mathlib.Core.Logic.{_⊎_, inl, inr, _≢_}
 use Prim.Native.Nat.{ℕ, zero, suc, _+_, _*_, _/_, _%_, _^_, _≤_, _<_}
-use native.Mathlib.Nat.{eq-zero-or-pos, zero-div, div-eq-of-lt, div-add-mod', div-eq-of-lt-le, lt-of-not-le, mod-lt, zero-lt-suc}
+use native.Mathlib.Nat.{eq-zero-or-pos, zero-div, div-eq-of-lt, div-add-mod', div-eq-of-lt-le, lt-of-not-le, mod-lt, zero-lt-suc, pos-of-ne-zero}
 use native.Mathlib.Numerals.{one-add}
 use native.Mathlib.Decide.{decLe, ℕ-discrete}
 use native.Mathlib.Omega.{arith}
@@ -16,7 +16,7 @@ use lib.Bits.{xor-self, xor-zero-r, xor-shr}
 use borrow.Author.Tests.{ltb-true, ltb-false, lt-ltb}
 use Rattle.gf2.specs.Bits.{_⊕_, _⊻_, bit, Highest, halvings, lead, hasLead}
 use Rattle.gf2.proofs.Logic.{clash, ltb-same}
-use Rattle.gf2.proofs.Xor.{xor-half, xor-low, two-digits, bit-xor, bit-big, bit-is, xor-cancel-l, xor-fix}
+use Rattle.gf2.proofs.Xor.{xor-half, xor-low, two-digits, bit-xor, bit-big, bit-is, xor-cancel-l, xor-fix, xor-eq}
 
 -- ---- the lead as a quotient: k is the place of the highest set bit of v exactly if v / 2 ^ k is 1
 
@@ -173,3 +173,19 @@ lead-fits n v p h = elim (decLe n (lead v)) [
 
 pub lead-pow : (k : ℕ) → lead (2 ^ k) ≡ k
 lead-pow k = lead-eq k (2 ^ k) (lead-of k (2 ^ k) (omega arith) (omega (arith, pow-pos k)))
+
+-- ---- two points compared
+
+pub differ-pos : (u v : ℕ) → u < v → 0 < u ⊕ v
+differ-pos u v h = pos-of-ne-zero (λ e. omega (arith, xor-eq u v e))
+
+-- The highest bit in which they differ is clear in the smaller and set in the larger.
+pub differ-lower : (u v : ℕ) → u < v → bit (lead (u ⊕ v)) u ≡ false
+differ-lower u v h = go (bit (lead (u ⊕ v)) u) refl
+  where
+    go : (t : Bool) → bit (lead (u ⊕ v)) u ≡ t → t ≡ false
+    go false e = refl
+    go true e = absurd (omega (arith, order-by-bit (lead (u ⊕ v)) u v (lead-is (u ⊕ v) (differ-pos u v h)) e))
+
+pub differ-upper : (u v : ℕ) → u < v → bit (lead (u ⊕ v)) v ≡ true
+differ-upper u v h = sym (rw (differ-lower u v h) at (bit-xor (lead (u ⊕ v)) u v)) ∙ hasLead-self (u ⊕ v) (differ-pos u v h)

@@ -1,6 +1,6 @@
 -- Truth values: what a test that came out true or false says of its parts. Read next: Finite.
 use mathlib.Core.Path.{_≡_, refl, sym, _∙_}
-use mathlib.Core.Bool.{Bool, true, false, not, cond, _&&_, _||_, true≢false}
+use mathlib.Core.Bool.{Bool, true, false, not, cond, _&&_, _||_, true≢false, Bool·beq}
 use mathlib.Core.Logic.{_⊎_, inl, inr}
 use Prim.Native.Nat.{ℕ, _<_}
 use lib.Dec.{ltb}
@@ -74,3 +74,32 @@ pub ⊻-false : (a : Bool) → a ⊻ false ≡ a
 pub and-⊻ : (a b c : Bool) → a && (b ⊻ c) ≡ (a && b) ⊻ (a && c)
 and-⊻ true b c = refl
 and-⊻ false b c = refl
+
+-- More of AND, OR and XOR.
+pub and-false : (a : Bool) → a && false ≡ false
+and-false true = refl
+and-false false = refl
+
+pub and-true : (a : Bool) → a && true ≡ a
+and-true true = refl
+and-true false = refl
+
+pub or-false : (a b : Bool) → a ≡ false → b ≡ false → a || b ≡ false
+or-false a b p q = rw (p, q)
+
+pub ⊻-same : (a b : Bool) → a ⊻ b ≡ false → a ≡ b
+⊻-same true true e = refl
+⊻-same true false e = e
+⊻-same false true e = sym e
+⊻-same false false e = refl
+
+-- The test that two truth values are equal.
+pub beq-eq : (a b : Bool) → Bool·beq a b ≡ true → a ≡ b
+beq-eq true true e = refl
+beq-eq true false e = sym e
+beq-eq false true e = e
+beq-eq false false e = refl
+
+pub eq-beq : (a b : Bool) → a ≡ b → Bool·beq a b ≡ true
+eq-beq true b e = rw (← e)
+eq-beq false b e = rw (← e)

@@ -1,6 +1,6 @@
 -- The reduced basis of a space given by a test on the points below 2 ^ n: it is reduced, it spans the space, and insertion of the space's
--- vectors one at a time gives the same list. Read next: Variables.
-use mathlib.Core.Path.{_≡_, refl, sym, ap, _∙_, subst}
+-- vectors one at a time gives the same list. Read next: Cubes.
+use mathlib.Core.Path.{_≡_, refl, sym, ap, _∙_, subst, ap₂}
 use mathlib.Core.Bool.{Bool, true, false, not, cond, _&&_}
 use mathlib.Core.Logic.{_⊎_, inl, inr, _↔_}
 use mathlib.Core.List.{List, [], _∷_, _++_}
@@ -18,7 +18,7 @@ use Rattle.gf2.specs.Finite.{Mem, all, select, In}
 use Rattle.gf2.specs.Span.{Span, Space}
 use Rattle.gf2.specs.Basis.{Apart, Reduced, inserts, units, reduces, irreducible, reducedBasis}
 use Rattle.gf2.proofs.Logic.{and-l, and-r, cond-cases}
-use Rattle.gf2.proofs.Finite.{all-at, all-not, below-ind, mem-snoc, snoc-mem, select-mem, mem-select}
+use Rattle.gf2.proofs.Finite.{all-at, all-not, below-ind, mem-snoc, snoc-mem, select-mem, mem-select, all-ext, select-ext}
 use Rattle.gf2.proofs.Xor.{xor-cancel, bit-pow-other}
 use Rattle.gf2.proofs.Leads.{hasLead-lt, lead-highest, lead-pow, lead-fits}
 use Rattle.gf2.proofs.Span.{span-zero, span-xor, span-mem, span-least, span-below}
@@ -123,6 +123,17 @@ basis-select n P s = basis-inserts n P s (select P (2 ^ n)) (λ x. (
   span-least (In n P) s (select P (2 ^ n)) (select-mem P (2 ^ n)) x,
   λ i. span-mem (select P (2 ^ n)) x (mem-select P (2 ^ n) x (i .0) (i .1)),
 ))
+
+irreducible-ext : (P Q : ℕ → Bool) (v : ℕ) → P v ≡ Q v → ((x : ℕ) → x < v → P x ≡ Q x) → irreducible P v ≡ irreducible Q v
+unfolding irreducible reduces
+irreducible-ext P Q v e h =
+    ap₂ (λ s t. s && (ltb 0 v && t)) e
+    (all-ext (λ u. not (reduces P v u)) (λ u. not (reduces Q v u)) v (λ u l. ap (λ t. not (t && (ltb 0 u && hasLead u v))) (h u l)))
+
+-- Tests that give the same vectors of n variables give the same reduced basis.
+pub basis-ext : (n : ℕ) (P Q : ℕ → Bool) → ((x : ℕ) → x < 2 ^ n → P x ≡ Q x) → reducedBasis n P ≡ reducedBasis n Q
+unfolding reducedBasis
+basis-ext n P Q h = select-ext (irreducible P) (irreducible Q) (2 ^ n) (λ v l. irreducible-ext P Q v (h v l) (λ x m. h x (omega arith)))
 
 -- ---- the full basis
 

@@ -2,20 +2,21 @@
 use mathlib.Core.Path.{_≡_, refl, sym, ap, ap₂, _∙_, subst}
 use mathlib.Core.Bool.{Bool, true, false, not, cond, _||_}
 use mathlib.Core.Logic.{_⊎_, inl, inr, _≢_}
-use mathlib.Core.List.{List, [], _∷_}
+use mathlib.Core.List.{List, [], _∷_, _++_, map, append-assoc, append-nil}
 use Prim.Native.Nat.{ℕ, zero, suc, _+_, _^_, _≤_, _<_}
-use native.Mathlib.Nat.{lt-suc-self}
+use native.Mathlib.Nat.{lt-suc-self, pos-of-ne-zero}
 use native.Mathlib.Decide.{ℕ-discrete}
 use native.Mathlib.Omega.{arith}
 use lib.ListN.{length}
 use lib.Dec.{eqb}
-use borrow.Author.Tests.{eqb-true, eqb-false, eq-eqb, ne-eqb}
+use borrow.Author.Tests.{eqb-true, eqb-false, eq-eqb, ne-eqb, not-true}
 use Rattle.gf2.specs.Bits.{_⊕_, _⊻_, bit, lead}
 use Rattle.gf2.specs.Finite.{Mem, Ordered}
 use Rattle.gf2.specs.Basis.{Reduced, isLead, leadMask, placesAt, canonicalPlaces, noncanonicalPlaces}
-use Rattle.gf2.proofs.Logic.{clash, cond-cases, or-cases, or-none}
-use Rattle.gf2.proofs.Xor.{bit-xor, bit-zero, bit-pow}
-use Rattle.gf2.proofs.Leads.{lead-rise, lead-fits}
+use Rattle.gf2.proofs.Logic.{clash, cond-cases, or-cases, or-none, or-l, or-r}
+use Rattle.gf2.proofs.Xor.{bit-xor, bit-zero, bit-pow, xor-cancel, xor-eq}
+use Rattle.gf2.proofs.Leads.{lead-rise, lead-fits, lead-xor-higher}
+use Rattle.gf2.specs.Span.{Span}
 
 -- ---- the leads of a list
 
@@ -74,6 +75,26 @@ places-count q (suc n) = go (q n) (places-count q n)
     go true e = omega arith
     go false e = omega arith
 
+pub noncanonical-mem : (n : ℕ) (bs : List ℕ) (k : ℕ) → Mem k (noncanonicalPlaces n bs) → (k < n) × (isLead bs k ≡ false)
+noncanonical-mem n bs k m = let h = places-mem (λ j. not (isLead bs j)) n k m in (h .0, not-true (isLead bs k) (h .1))
+
+pub mem-noncanonical : (n : ℕ) (bs : List ℕ) (k : ℕ) → k < n → isLead bs k ≡ false → Mem k (noncanonicalPlaces n bs)
+mem-noncanonical n bs k h e = mem-places (λ j. not (isLead bs j)) n k h (rw e)
+
+-- The places found, and those still to come.
+pub places-step : {A : Type 0} (f : ℕ → A) (q : ℕ → Bool) (j : ℕ) (found : List A)
+    → found ++ map f (placesAt (suc j) q) ≡ cond (q j) (found ++ (f j ∷ [])) found ++ map f (placesAt j q)
+unfolding placesAt
+places-step {A} f q j found = go (q j)
+  where
+    go : (t : Bool) → found ++ map f (cond t (j ∷ placesAt j q) (placesAt j q)) ≡ cond t (found ++ (f j ∷ [])) found ++ map f (placesAt j q)
+    go true = sym (append-assoc found (f j ∷ []) (map f (placesAt j q)))
+    go false = refl
+
+pub places-none : {A : Type 0} (f : ℕ → A) (q : ℕ → Bool) (found : List A) → found ++ map f (placesAt 0 q) ≡ found
+unfolding placesAt
+places-none f q found = append-nil found
+
 -- ---- of n variables, as many are canonical as the basis has vectors
 
 leads-over : (b : ℕ) (bs : List ℕ) (n : ℕ) → n ≤ lead b → length (canonicalPlaces n (b ∷ bs)) ≡ length (canonicalPlaces n bs)
@@ -124,6 +145,25 @@ canonical-length n (b ∷ bs) r h =
 
 pub noncanonical-length : (n : ℕ) (bs : List ℕ) → Reduced bs → ((c : ℕ) → Mem c bs → c < 2 ^ n) → length (noncanonicalPlaces n bs) + length bs ≡ n
 noncanonical-length n bs r h = omega (arith, places-count (isLead bs) n, canonical-length n bs r h)
+
+-- ---- the lead of a vector of the space is canonical
+
+pub span-isLead : (bs : List ℕ) → Reduced bs → (v : ℕ) → 0 < v → Span bs v → isLead bs (lead v) ≡ true
+unfolding isLead
+span-isLead [] r v p s = absurd (omega arith)
+span-isLead (b ∷ bs) r v p (inl s) = or-r (eqb (lead b) (lead v)) (isLead bs (lead v)) (span-isLead bs (r .2) v p s)
+span-isLead (b ∷ bs) r v p (inr s) = go (ℕ-discrete (v ⊕ b) 0) (span-isLead bs (r .2) (v ⊕ b))
+  where
+    go : Dec (v ⊕ b ≡ 0) → (0 < v ⊕ b → Span bs (v ⊕ b) → isLead bs (lead (v ⊕ b)) ≡ true) → eqb (lead b) (lead v) || isLead bs (lead v) ≡ true
+    go (yes e) f = or-l (eqb (lead b) (lead v)) (isLead bs (lead v)) (eq-eqb (lead b) (lead v) (ap lead (sym (xor-eq v b e))))
+    go (no n) f =
+        let q = pos-of-ne-zero n in
+        let t = f q s in
+        let c = isLead-at bs (lead (v ⊕ b)) t in
+        let a = r .1 (c .0) (c .1) in
+        let h : lead b < lead (v ⊕ b) = omega (arith, c .2, lead-rise b (c .0) (r .0) (a .rises) (a .lower)) in
+        let e : lead v ≡ lead (v ⊕ b) = ap lead (sym (xor-cancel v b)) ∙ lead-xor-higher b (v ⊕ b) q h in
+        or-r (eqb (lead b) (lead v)) (isLead bs (lead v)) (rw e t)
 
 -- ---- the leads as one mask
 

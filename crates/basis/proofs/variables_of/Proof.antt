@@ -1,7 +1,7 @@
 -- `basis::variables_of` meets its contract: what is found, then the variables of the places below k, is the whole. Assumes nothing.
 use mathlib.Core.Path.{_≡_, refl, sym, ap, _∙_}
 use mathlib.Core.Bool.{Bool, true, false, cond}
-use mathlib.Core.List.{List, [], _∷_, _++_, map, append-assoc, append-nil}
+use mathlib.Core.List.{List, [], _∷_, _++_, map}
 use Prim.Native.Nat.{ℕ, suc, _+_, _-_, _≤_, _<_}
 use native.Mathlib.Omega.{arith}
 use borrow.Author.Needs.{needs}
@@ -9,6 +9,7 @@ use lib.ListN.{length, length-append}
 use Rattle.gf2.specs.Limits.{maxVariables}
 use Rattle.gf2.specs.Bits.{bit, indexOf}
 use Rattle.gf2.specs.Basis.{placesAt, variablesAt}
+use Rattle.gf2.proofs.Variables.{places-step, places-none}
 use Rattle.basis.specs.declared.ShortList.{ShortList}
 use Rattle.basis.specs.Short.{listed, short}
 use Rattle.basis.proofs.Values.{short-listed, short-again, short-len}
@@ -49,18 +50,19 @@ loop-less c = search needs
 
 -- One place passed: its variable is next where the bit is set, and is left out where it is clear.
 module _ (n mask k : ℕ) (h : 0 < k) (done : List ℕ) where
-  abbrev q : ℕ → Bool
-  q j = bit j mask
+  abbrev set : ℕ → Bool
+  set j = bit j mask
 
-  step : (t : Bool) → q (k - 1) ≡ t → placesAt k q ≡ cond t ((k - 1) ∷ placesAt (k - 1) q) (placesAt (k - 1) q)
-  unfolding placesAt
-  step t e = let z : k ≡ suc (k - 1) = omega arith in ap (λ (j : ℕ). placesAt j q) z ∙ rw e
+  step : done ++ variablesAt n (placesAt k set) ≡ cond (set (k - 1)) (done ++ ((n - (k - 1)) ∷ [])) done ++ variablesAt n (placesAt (k - 1) set)
+  step =
+      let e : k ≡ suc (k - 1) = omega arith in
+      ap (λ (j : ℕ). done ++ variablesAt n (placesAt j set)) e ∙ places-step (indexOf n) set (k - 1) done
 
-  taken : q (k - 1) ≡ true → (done ++ ((n - (k - 1)) ∷ [])) ++ variablesAt n (placesAt (k - 1) q) ≡ done ++ variablesAt n (placesAt k q)
-  taken e = append-assoc done ((n - (k - 1)) ∷ []) (variablesAt n (placesAt (k - 1) q)) ∙ ap (λ l. done ++ variablesAt n l) (sym (step true e))
+  taken : set (k - 1) ≡ true → (done ++ ((n - (k - 1)) ∷ [])) ++ variablesAt n (placesAt (k - 1) set) ≡ done ++ variablesAt n (placesAt k set)
+  taken e = sym (step ∙ rw e)
 
-  left : q (k - 1) ≡ false → done ++ variablesAt n (placesAt (k - 1) q) ≡ done ++ variablesAt n (placesAt k q)
-  left e = ap (λ l. done ++ variablesAt n l) (sym (step false e))
+  left : set (k - 1) ≡ false → done ++ variablesAt n (placesAt (k - 1) set) ≡ done ++ variablesAt n (placesAt k set)
+  left e = sym (step ∙ rw e)
 
 loop-again : tie.Need-loop-again Inv-loop μ-loop
 loop-again c =
@@ -84,11 +86,11 @@ loop-again-2 c =
     (omega arith, omega arith, l .inv .2, left (a .n) (a .mask) (l .k) (omega arith) (listed (l .found)) (sym (c .before .bit .ensures) ∙ c .if1 .left) ∙ l .inv .3)
 
 returns : tie.Need-returns Inv-loop μ-loop
-unfolding placesAt
 returns c =
     let l = c .before .loop in
-    let z : l .k ≡ 0 = omega arith in
-    l .inv .2 ∙ ap short (sym (append-nil (listed (l .found))) ∙ (rw z at (l .inv .3)))
+    let a = c .before .before .args in
+    let e : l .k ≡ 0 = omega arith in
+    l .inv .2 ∙ ap short (sym (places-none (indexOf (a .n)) (λ (j : ℕ). bit j (a .mask)) (listed (l .found))) ∙ (rw e at (l .inv .3)))
 
 pub variables-of-spec : {M : Type 1} → statement M
 variables-of-spec =

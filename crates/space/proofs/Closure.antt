@@ -1,0 +1,99 @@
+-- Laws of specs.Closure: the vectors a function is closed under are a space, and what its linear space spans; functions that agree below
+-- 2 ^ n; the linear space by insertion. Read next: Completion.
+use mathlib.Core.Path.{_≡_, refl, sym, ap, ap₂, _∙_}
+use mathlib.Core.Bool.{Bool, true, false, Bool·beq}
+use mathlib.Core.Logic.{_↔_}
+use mathlib.Core.List.{List, []}
+use Prim.Native.Nat.{ℕ, _^_, _≤_, _<_}
+use lib.ListN.{length}
+use lib.Pow.{pow-pos}
+use lib.Bits.{xor-zero-r, xor-lt}
+use Rattle.gf2.specs.Bits.{_⊕_}
+use Rattle.gf2.specs.Finite.{Mem, select, In}
+use Rattle.gf2.specs.Span.{Span, Space}
+use Rattle.gf2.specs.Basis.{Reduced, inserts}
+use Rattle.gf2.proofs.Logic.{clash, beq-eq, eq-beq}
+use Rattle.gf2.proofs.Finite.{all-at, all-of, all-not, all-ext}
+use Rattle.gf2.proofs.Xor.{xor-assoc}
+use Rattle.gf2.proofs.ReducedBasis.{basis-reduced, basis-below, basis-length, basis-span, basis-unique, basis-select, basis-ext}
+use Rattle.space.specs.Closure.{closed, linearSpace, degree}
+
+-- ---- closed under a: for every w below 2 ^ n, f (w ⊕ a) is f w
+
+pub closed-at : (n : ℕ) (f : ℕ → Bool) (a : ℕ) → closed n f a ≡ true → (w : ℕ) → w < 2 ^ n → f (w ⊕ a) ≡ f w
+unfolding closed
+closed-at n f a e w h = beq-eq (f (w ⊕ a)) (f w) (all-at (λ w. Bool·beq (f (w ⊕ a)) (f w)) (2 ^ n) e w h)
+
+pub closed-of : (n : ℕ) (f : ℕ → Bool) (a : ℕ) → ((w : ℕ) → w < 2 ^ n → f (w ⊕ a) ≡ f w) → closed n f a ≡ true
+unfolding closed
+closed-of n f a g = all-of (λ w. Bool·beq (f (w ⊕ a)) (f w)) (2 ^ n) (λ w h. eq-beq (f (w ⊕ a)) (f w) (g w h))
+
+-- A point that breaks closure is found exactly if the function is not closed.
+pub closed-broken : (n : ℕ) (f : ℕ → Bool) (a w : ℕ) → w < 2 ^ n → (f (w ⊕ a) ≡ f w → ⊥) → closed n f a ≡ false
+closed-broken n f a w h g = go (closed n f a) refl
+  where
+    go : (t : Bool) → closed n f a ≡ t → t ≡ false
+    go false e = refl
+    go true e = absurd (g (closed-at n f a e w h))
+
+pub closed-witness : (n : ℕ) (f : ℕ → Bool) (a : ℕ) → closed n f a ≡ false → (w : ℕ) × (w < 2 ^ n) × (f (w ⊕ a) ≡ f w → ⊥)
+unfolding closed
+closed-witness n f a e =
+    let k = all-not (λ w. Bool·beq (f (w ⊕ a)) (f w)) (2 ^ n) e in
+    (k .0, k .1, λ q. clash (eq-beq (f (k .0 ⊕ a)) (f (k .0)) q) (k .2))
+
+-- ---- these vectors are a space
+
+pub closed-space : (n : ℕ) (f : ℕ → Bool) → Space (In n (closed n f))
+closed-space n f = record {
+  origin = (pow-pos n, closed-of n f 0 (λ w h. ap f (xor-zero-r w)));
+  sums = λ a b p q. (
+    xor-lt n a b (p .0) (q .0),
+    closed-of n f (a ⊕ b) (λ w h.
+        ap f (sym (xor-assoc w a b)) ∙ closed-at n f b (q .1) (w ⊕ a) (xor-lt n w a h (p .0)) ∙ closed-at n f a (p .1) w h),
+  );
+}
+
+-- ---- and the linear space is its reduced basis
+
+pub linear-reduced : (n : ℕ) (f : ℕ → Bool) → Reduced (linearSpace n f)
+unfolding linearSpace
+linear-reduced n f = basis-reduced n (closed n f)
+
+pub linear-span : (n : ℕ) (f : ℕ → Bool) (x : ℕ) → Span (linearSpace n f) x ↔ In n (closed n f) x
+unfolding linearSpace
+linear-span n f = basis-span n (closed n f) (closed-space n f)
+
+pub linear-below : (n : ℕ) (f : ℕ → Bool) (b : ℕ) → Mem b (linearSpace n f) → b < 2 ^ n
+unfolding linearSpace
+linear-below n f = basis-below n (closed n f)
+
+pub degree-le : (n : ℕ) (f : ℕ → Bool) → degree n f ≤ n
+unfolding degree linearSpace
+degree-le n f = basis-length n (closed n f)
+
+-- It is the only reduced basis that spans these vectors.
+pub linear-unique : (n : ℕ) (f : ℕ → Bool) (bs : List ℕ) → Reduced bs → ((x : ℕ) → Span bs x ↔ In n (closed n f) x) → bs ≡ linearSpace n f
+unfolding linearSpace
+linear-unique n f = basis-unique n (closed n f) (closed-space n f)
+
+-- ---- two functions that agree below 2 ^ n have the same linear space
+
+pub closed-ext : (n : ℕ) (f g : ℕ → Bool) → ((w : ℕ) → w < 2 ^ n → f w ≡ g w) → (a : ℕ) → a < 2 ^ n → closed n f a ≡ closed n g a
+unfolding closed
+closed-ext n f g h a l = all-ext (λ w. Bool·beq (f (w ⊕ a)) (f w)) (λ w. Bool·beq (g (w ⊕ a)) (g w)) (2 ^ n)
+    (λ w m. ap₂ Bool·beq (h (w ⊕ a) (xor-lt n w a m l)) (h w m))
+
+pub linear-ext : (n : ℕ) (f g : ℕ → Bool) → ((w : ℕ) → w < 2 ^ n → f w ≡ g w) → linearSpace n f ≡ linearSpace n g
+unfolding linearSpace
+linear-ext n f g h = basis-ext n (closed n f) (closed n g) (closed-ext n f g h)
+
+pub degree-ext : (n : ℕ) (f g : ℕ → Bool) → ((w : ℕ) → w < 2 ^ n → f w ≡ g w) → degree n f ≡ degree n g
+unfolding degree
+degree-ext n f g h = ap length (linear-ext n f g h)
+
+-- ---- the linear space by putting in, one at a time, the vectors under which the function is closed
+
+pub linear-inserts : (n : ℕ) (f : ℕ → Bool) → inserts [] (select (closed n f) (2 ^ n)) ≡ linearSpace n f
+unfolding linearSpace
+linear-inserts n f = basis-select n (closed n f) (closed-space n f)

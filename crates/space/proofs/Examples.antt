@@ -1,0 +1,53 @@
+-- Worked examples of document 01, "Table of proved examples", as far as they concern the spaces of a table, computed from the definitions.
+use mathlib.Core.Path.{_≡_, refl}
+use mathlib.Core.List.{List, [], _∷_, map}
+use Prim.Native.Nat.{ℕ}
+use Rattle.gf2.specs.Finite.{holds, all, select}
+use Rattle.gf2.specs.Bits.{bit, halvings, lead}
+use Rattle.gf2.specs.Basis.{clear, reduce, place, join, insert, inserts, reduces, irreducible, reducedBasis, isLead, placesAt, canonicalPlaces, variablesAt}
+use Rattle.space.specs.Closure.{closed, linearSpace, degree}
+use Rattle.space.specs.Completion.{allOn, lowDegree, highDegree, completed, completedPoints}
+use Rattle.space.specs.Restriction.{equation, equations, number, project, clean, restriction}
+use Rattle.space.specs.Affine.{directions, leastPoint, projection}
+
+-- What is asked of a table of n variables with these on points, and these free points.
+pub data Question : Type 0 where
+  analysis : (n : ℕ) (on free : List ℕ) → Question
+  affine : (n : ℕ) (on : List ℕ) → Question
+
+-- Of the analysis: k0, k1, and of the completed function its points, basis, canonical variables, equations as masks and restriction.
+-- Of the smallest affine space: least point, basis and projection.
+pub data Answer : Type 0 where
+  analysed : (k0 k1 : ℕ) (points basis canonical masks restriction : List ℕ) → Answer
+  space : (least : ℕ) (basis projection : List ℕ) → Answer
+
+pub answer : Question → Answer
+answer (analysis n on free) =
+    let f = completed n on free in
+    let bs = linearSpace n f in
+    analysed (lowDegree n on) (highDegree n on free) (completedPoints n on free) bs (variablesAt n (canonicalPlaces n bs)) (equations n bs) (restriction n bs f)
+answer (affine n on) = space (leastPoint on) (directions on) (projection n (directions on) on)
+
+pub record Example : Type 0 where
+  pub asked : Question
+  pub expected : Answer
+
+-- P1 to P5, P7 and P8.
+pub examples : List Example
+examples =
+    record { asked = analysis 1 [] []; expected = analysed 1 1 [] (1 ∷ []) (1 ∷ []) [] [] }
+    ∷ record { asked = analysis 1 (0 ∷ []) []; expected = analysed 0 0 (0 ∷ []) [] [] (1 ∷ []) (0 ∷ []) }
+    ∷ record { asked = analysis 1 (0 ∷ 1 ∷ []) []; expected = analysed 1 1 (0 ∷ 1 ∷ []) (1 ∷ []) (1 ∷ []) [] (0 ∷ []) }
+    ∷ record { asked = analysis 3 (1 ∷ 2 ∷ 4 ∷ 7 ∷ []) []; expected = analysed 2 2 (1 ∷ 2 ∷ 4 ∷ 7 ∷ []) (3 ∷ 5 ∷ []) (1 ∷ 2 ∷ []) (7 ∷ []) (1 ∷ []) }
+    ∷ record {
+      asked = analysis 4 (4 ∷ 5 ∷ 6 ∷ 7 ∷ 9 ∷ 10 ∷ 12 ∷ 13 ∷ 14 ∷ 15 ∷ []) [];
+      expected = analysed 1 1 (4 ∷ 5 ∷ 6 ∷ 7 ∷ 9 ∷ 10 ∷ 12 ∷ 13 ∷ 14 ∷ 15 ∷ []) (3 ∷ []) (3 ∷ []) (8 ∷ 4 ∷ 3 ∷ []) (2 ∷ 3 ∷ 5 ∷ 6 ∷ 7 ∷ []);
+    }
+    ∷ record { asked = affine 4 (2 ∷ 4 ∷ 6 ∷ 11 ∷ 13 ∷ []); expected = space 0 (2 ∷ 4 ∷ 9 ∷ []) (1 ∷ 2 ∷ 3 ∷ 5 ∷ 6 ∷ []) }
+    ∷ record { asked = analysis 2 (0 ∷ []) (1 ∷ 2 ∷ []); expected = analysed 0 0 (0 ∷ []) [] [] (2 ∷ 1 ∷ []) (0 ∷ []) }
+    ∷ []
+
+-- Each answer is the one expected.
+pub computed : map (λ e. answer (e .asked)) examples ≡ map (λ e. e .expected) examples
+unfolding examples answer holds all select bit halvings lead clear reduce place join insert inserts reduces irreducible reducedBasis isLead placesAt closed linearSpace degree allOn completed completedPoints equation equations number project clean restriction directions leastPoint projection
+computed = refl

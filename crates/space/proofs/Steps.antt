@@ -1,0 +1,211 @@
+-- The definitions as a loop meets them: one element, one place or one point more. `take`, `suc` and `getD` stand as in the kit's lib.Seq.
+-- The steps of a selection and of a basis that grows by insertion are in gf2. Read next: Examples.
+use mathlib.Core.Path.{_≡_, refl, sym, ap, _∙_}
+use mathlib.Core.Bool.{Bool, true, false, cond, _&&_}
+use mathlib.Core.List.{List, [], _∷_, _++_, map}
+use Prim.Native.Nat.{ℕ, suc, _+_, _*_, _^_, _≤_, _<_}
+use native.Mathlib.Nat.{add-mul, mul-assoc, one-mul, zero-mul, pow-suc}
+use native.Mathlib.Omega.{arith}
+use lib.ListN.{length, length-append, length-map, take, getD}
+use lib.Seq.{take-suc}
+use lib.Dec.{eqb}
+use lib.Bits.{bitAnd, xor-comm, xor-self}
+use borrow.Author.Tests.{eqb-true, eq-eqb}
+use Rattle.gf2.specs.Bits.{_⊕_, bit, lead, hasLead}
+use Rattle.gf2.specs.Finite.{Mem, select}
+use Rattle.gf2.specs.Parity.{odd}
+use Rattle.gf2.specs.Basis.{Reduced, reduce, insert, inserts, isLead, leadMask, placesAt, canonicalPlaces, noncanonicalPlaces}
+use Rattle.gf2.proofs.Logic.{same}
+use Rattle.gf2.proofs.Xor.{bit-and, bit-ext, bit-zero, xor-assoc}
+use Rattle.gf2.proofs.Insert.{insert-known, inserts-snoc}
+use Rattle.gf2.proofs.Variables.{isLead-at, isLead-off, bit-leadMask}
+use Rattle.space.specs.Restriction.{equation, number, project, values, clean, restriction}
+use Rattle.space.specs.Affine.{directions, leastPoint, projection}
+use Rattle.space.proofs.Restriction.{number-step, clean-at, clean-of}
+use Rattle.gf2.proofs.Finite.{map-snoc, map-take, select-grows}
+
+-- ---- numbers bit by bit, the highest first
+
+-- One bit more at the end.
+pub number-snoc : (ts : List Bool) (t : Bool) → number (ts ++ (t ∷ [])) ≡ 2 * number ts + cond t 1 0
+unfolding number
+number-snoc [] true = refl
+number-snoc [] false = refl
+number-snoc (true ∷ ts) t =
+    let e : length (ts ++ (t ∷ [])) ≡ suc (length ts) = omega (arith, length-append ts (t ∷ [])) in
+    rw e (omega (arith, number-snoc ts t))
+number-snoc (false ∷ ts) t = omega (arith, number-snoc ts t)
+
+pub project-snoc : (ks : List ℕ) (k w : ℕ) → project (ks ++ (k ∷ [])) w ≡ 2 * project ks w + cond (bit k w) 1 0
+unfolding project
+project-snoc ks k w = ap number (map-snoc (λ j. bit j w) ks k) ∙ number-snoc (map (λ j. bit j w) ks) (bit k w)
+
+pub values-snoc : (ms : List ℕ) (m w : ℕ) → values (ms ++ (m ∷ [])) w ≡ 2 * values ms w + cond (odd m w) 1 0
+unfolding values
+values-snoc ms m w = ap number (map-snoc (λ e. odd e w) ms m) ∙ number-snoc (map (λ e. odd e w) ms) (odd m w)
+
+pub project-take : (ks : List ℕ) (j w : ℕ) → j < length ks → project (take (suc j) ks) w ≡ 2 * project (take j ks) w + cond (bit (getD ks j 0) w) 1 0
+project-take ks j w h = ap (λ l. project l w) (take-suc ks j 0 h) ∙ project-snoc (take j ks) (getD ks j 0) w
+
+pub values-take : (ms : List ℕ) (j w : ℕ) → j < length ms → values (take (suc j) ms) w ≡ 2 * values (take j ms) w + cond (odd (getD ms j 0) w) 1 0
+values-take ms j w h = ap (λ l. values l w) (take-suc ms j 0 h) ∙ values-snoc (take j ms) (getD ms j 0) w
+
+-- One bit more at the front.
+pub project-cons : (k : ℕ) (ks : List ℕ) (w : ℕ) → project (k ∷ ks) w ≡ cond (bit k w) (2 ^ length ks) 0 + project ks w
+unfolding project
+project-cons k ks w = number-step (λ j. bit j w) k ks
+
+pub values-cons : (m : ℕ) (ms : List ℕ) (w : ℕ) → values (m ∷ ms) w ≡ cond (odd m w) (2 ^ length ms) 0 + values ms w
+unfolding values
+values-cons m ms w = number-step (λ e. odd e w) m ms
+
+-- From the highest bit down: the bits found, above those still to come.
+shift : (t : Bool) (a p x : ℕ) → a * (p * 2) + (cond t p 0 + x) ≡ (2 * a + cond t 1 0) * p + x
+shift true a p x = omega (arith, mul-assoc a p 2, mul-assoc 2 a p, add-mul (2 * a) 1 p, one-mul p)
+shift false a p x = omega (arith, mul-assoc a p 2, mul-assoc 2 a p, add-mul (2 * a) 0 p, zero-mul p)
+
+pub number-front : {A : Type 0} (f : A → Bool) (a : A) (l : List A) (found : ℕ)
+    → found * 2 ^ length (a ∷ l) + number (map f (a ∷ l)) ≡ (2 * found + cond (f a) 1 0) * 2 ^ length l + number (map f l)
+number-front f a l found =
+    ap (λ (z : ℕ). found * 2 ^ suc (length l) + z) (number-step f a l)
+    ∙ rw (pow-suc 2 (length l)) (shift (f a) found (2 ^ length l) (number (map f l)))
+
+-- The same over the places that pass a test.
+pub gather-step : (q f : ℕ → Bool) (j found : ℕ) → found * 2 ^ length (placesAt (suc j) q) + number (map f (placesAt (suc j) q))
+    ≡ cond (q j) (2 * found + cond (f j) 1 0) found * 2 ^ length (placesAt j q) + number (map f (placesAt j q))
+unfolding placesAt
+gather-step q f j found = go (q j)
+  where
+    go : (t : Bool) → found * 2 ^ length (cond t (j ∷ placesAt j q) (placesAt j q)) + number (map f (cond t (j ∷ placesAt j q) (placesAt j q)))
+        ≡ cond t (2 * found + cond (f j) 1 0) found * 2 ^ length (placesAt j q) + number (map f (placesAt j q))
+    go true = number-front f j (placesAt j q) found
+    go false = refl
+
+pub gather-none : (q f : ℕ → Bool) (found : ℕ) → found * 2 ^ length (placesAt 0 q) + number (map f (placesAt 0 q)) ≡ found
+unfolding placesAt number
+gather-none q f found = omega arith
+
+pub project-gather : (q : ℕ → Bool) (j w found : ℕ) → found * 2 ^ length (placesAt (suc j) q) + project (placesAt (suc j) q) w
+    ≡ cond (q j) (2 * found + cond (bit j w) 1 0) found * 2 ^ length (placesAt j q) + project (placesAt j q) w
+unfolding project
+project-gather q j w found = gather-step q (λ k. bit k w) j found
+
+pub project-gathered : (q : ℕ → Bool) (w found : ℕ) → found * 2 ^ length (placesAt 0 q) + project (placesAt 0 q) w ≡ found
+unfolding project
+project-gathered q w found = gather-none q (λ k. bit k w) found
+
+-- From the lowest place up: the kept bits below a place, and how many they are.
+pub project-none : (q : ℕ → Bool) (w : ℕ) → project (placesAt 0 q) w ≡ 0
+unfolding project placesAt number
+project-none q w = refl
+
+pub project-kept : (q : ℕ → Bool) (k w : ℕ) → q k ≡ true → project (placesAt (suc k) q) w ≡ cond (bit k w) (2 ^ length (placesAt k q)) 0 + project (placesAt k q) w
+unfolding placesAt
+project-kept q k w e = rw e (project-cons k (placesAt k q) w)
+
+pub project-dropped : (q : ℕ → Bool) (k w : ℕ) → q k ≡ false → project (placesAt (suc k) q) w ≡ project (placesAt k q) w
+unfolding placesAt
+project-dropped q k w e = rw e
+
+pub places-kept : (q : ℕ → Bool) (k : ℕ) → q k ≡ true → length (placesAt (suc k) q) ≡ suc (length (placesAt k q))
+unfolding placesAt
+places-kept q k e = rw e
+
+pub places-dropped : (q : ℕ → Bool) (k : ℕ) → q k ≡ false → length (placesAt (suc k) q) ≡ length (placesAt k q)
+unfolding placesAt
+places-dropped q k e = rw e
+
+-- ---- an equation vector by vector
+
+pub equation-nil : (k : ℕ) → equation [] k ≡ 2 ^ k
+unfolding equation
+equation-nil k = refl
+
+pub equation-snoc : (bs : List ℕ) (b k : ℕ) → equation (bs ++ (b ∷ [])) k ≡ equation bs k ⊕ cond (bit k b) (2 ^ lead b) 0
+unfolding equation
+equation-snoc [] b k = xor-comm (cond (bit k b) (2 ^ lead b) 0) (2 ^ k)
+equation-snoc (c ∷ bs) b k =
+    ap (λ (z : ℕ). cond (bit k c) (2 ^ lead c) 0 ⊕ z) (equation-snoc bs b k)
+    ∙ sym (xor-assoc (cond (bit k c) (2 ^ lead c) 0) (equation bs k) (cond (bit k b) (2 ^ lead b) 0))
+
+pub equation-take : (bs : List ℕ) (j k : ℕ) → j < length bs
+    → equation (take (suc j) bs) k ≡ equation (take j bs) k ⊕ cond (bit k (getD bs j 0)) (2 ^ lead (getD bs j 0)) 0
+equation-take bs j k h = ap (λ l. equation l k) (take-suc bs j 0 h) ∙ equation-snoc (take j bs) (getD bs j 0) k
+
+-- ---- the canonical variables by their mask
+
+pub clean-mask : (bs : List ℕ) → Reduced bs → (w : ℕ) → clean bs w ≡ eqb (bitAnd (leadMask bs) w) 0
+clean-mask bs r w = same (clean bs w) (eqb (bitAnd (leadMask bs) w) 0)
+    (λ e. eq-eqb (bitAnd (leadMask bs) w) 0 (bit-ext (bitAnd (leadMask bs) w) 0
+    (λ k. bit-and k (leadMask bs) w ∙ rw (bit-leadMask bs r k, bit-zero k) (there k e (isLead bs k) refl))))
+    (λ e. clean-of bs w (λ c m. back c m (eqb-true (bitAnd (leadMask bs) w) 0 e) (isLead bs (lead c)) refl))
+  where
+    there : (k : ℕ) → clean bs w ≡ true → (t : Bool) → isLead bs k ≡ t → t && bit k w ≡ false
+    there k e true q = let c = isLead-at bs k q in rw (← (c .2)) (clean-at bs w e (c .0) (c .1))
+    there k e false q = refl
+
+    back : (c : ℕ) → Mem c bs → bitAnd (leadMask bs) w ≡ 0 → (t : Bool) → isLead bs (lead c) ≡ t → hasLead c w ≡ false
+    back c m e true q = sym (bit-and (lead c) (leadMask bs) w ∙ rw (bit-leadMask bs r (lead c), q)) ∙ ap (bit (lead c)) e ∙ bit-zero (lead c)
+    back c m e false q = absurd (isLead-off bs (lead c) q c m refl)
+
+-- ---- the restriction up to a point
+
+-- What the points below k give to the restriction.
+unfoldable pub restricted : ℕ → List ℕ → (ℕ → Bool) → ℕ → List ℕ
+restricted n bs f k = map (project (noncanonicalPlaces n bs)) (select (λ w. f w && clean bs w) k)
+
+pub restricted-none : (n : ℕ) (bs : List ℕ) (f : ℕ → Bool) → restricted n bs f 0 ≡ []
+unfolding restricted select
+restricted-none n bs f = refl
+
+pub restricted-all : (n : ℕ) (bs : List ℕ) (f : ℕ → Bool) → restricted n bs f (2 ^ n) ≡ restriction n bs f
+unfolding restricted restriction
+restricted-all n bs f = refl
+
+pub restricted-step : (n : ℕ) (bs : List ℕ) (f : ℕ → Bool) (k : ℕ)
+    → restricted n bs f (suc k) ≡ cond (f k && clean bs k) (restricted n bs f k ++ (project (noncanonicalPlaces n bs) k ∷ [])) (restricted n bs f k)
+unfolding restricted select
+restricted-step n bs f k = go (f k && clean bs k)
+  where
+    ws : List ℕ
+    ws = select (λ w. f w && clean bs w) k
+
+    go : (t : Bool) → map (project (noncanonicalPlaces n bs)) (cond t (ws ++ (k ∷ [])) ws)
+        ≡ cond t (map (project (noncanonicalPlaces n bs)) ws ++ (project (noncanonicalPlaces n bs) k ∷ [])) (map (project (noncanonicalPlaces n bs)) ws)
+    go true = map-snoc (project (noncanonicalPlaces n bs)) ws k
+    go false = refl
+
+-- It only grows.
+pub restricted-grows : (n : ℕ) (bs : List ℕ) (f : ℕ → Bool) (j k : ℕ) → j ≤ k → length (restricted n bs f j) ≤ length (restricted n bs f k)
+unfolding restricted
+restricted-grows n bs f j k h =
+    rw (length-map (select (λ w. f w && clean bs w) j) (project (noncanonicalPlaces n bs)), length-map (select (λ w. f w && clean bs w) k) (project (noncanonicalPlaces n bs)))
+    (select-grows (λ w. f w && clean bs w) j k h)
+
+-- ---- the smallest affine space point by point
+
+-- The directions of the first points of the list, from the point p.
+pub directions-take : (p : ℕ) (ps : List ℕ) (j : ℕ) → j < length ps
+    → inserts [] (map (λ q. q ⊕ p) (take (suc j) ps)) ≡ insert (inserts [] (map (λ q. q ⊕ p) (take j ps))) (getD ps j 0 ⊕ p)
+directions-take p ps j h = ap (inserts []) (map-take (λ q. q ⊕ p) ps j 0 h) ∙ inserts-snoc [] (map (λ q. q ⊕ p) (take j ps)) (getD ps j 0 ⊕ p)
+
+-- From the first point itself, which adds nothing, so that a loop may start at the second.
+pub directions-all : (ps : List ℕ) → 0 < length ps → inserts [] (map (λ q. q ⊕ getD ps 0 0) ps) ≡ directions ps
+unfolding directions inserts
+directions-all [] h = absurd (omega arith)
+directions-all (p ∷ ps) h = ap (λ l. inserts l (map (λ q. q ⊕ p) ps)) (insert-known [] (p ⊕ p) tt (xor-self p))
+
+pub directions-first : (ps : List ℕ) → 0 < length ps → inserts [] (map (λ q. q ⊕ getD ps 0 0) (take 1 ps)) ≡ []
+unfolding inserts
+directions-first [] h = absurd (omega arith)
+directions-first (p ∷ ps) h = insert-known [] (p ⊕ p) tt (xor-self p)
+
+pub leastPoint-is : (ps : List ℕ) → 0 < length ps → leastPoint ps ≡ reduce (directions ps) (getD ps 0 0)
+unfolding leastPoint
+leastPoint-is [] h = absurd (omega arith)
+leastPoint-is (p ∷ ps) h = refl
+
+pub projection-take : (n : ℕ) (bs ps : List ℕ) (j : ℕ) → j < length ps
+    → projection n bs (take (suc j) ps) ≡ projection n bs (take j ps) ++ (project (canonicalPlaces n bs) (getD ps j 0) ∷ [])
+unfolding projection
+projection-take n bs ps j h = map-take (project (canonicalPlaces n bs)) ps j 0 h

@@ -1,0 +1,5 @@
+-- Laws about the definitions in specs/, each heading there has its file here; read in this order.
+-- Those that other crates cite first: `fault-first`, `no-fault`, `fault-append` (Refusal), `accepted` (Table), `marked-at`, `flags-at` (Flags).
+pub mod Refusal
+pub mod Table
+pub mod Flags

@@ -1,0 +1,66 @@
+-- Refusal numbers and the order of tests (document 01, "Refusal numbers"). Read next: Table.
+use mathlib.Core.Path.{_≡_}
+use mathlib.Core.Bool.{Bool, true, false, cond}
+use mathlib.Core.Logic.{_≢_}
+use mathlib.Core.List.{List, [], _∷_, _++_}
+use Prim.Native.Nat.{ℕ}
+use Rattle.gf2.specs.Finite.{Mem}
+
+-- The numbers of document 01, "Refusal numbers", each named by what is at fault. 0 is none of them.
+abbrev pub variablesFault : ℕ
+variablesFault = 1
+
+abbrev pub pointFault : ℕ
+pointFault = 2
+
+abbrev pub orderFault : ℕ
+orderFault = 3
+
+abbrev pub sharedFault : ℕ
+sharedFault = 4
+
+abbrev pub sizeFault : ℕ
+sizeFault = 5
+
+abbrev pub affineFault : ℕ
+affineFault = 6
+
+abbrev pub roomFault : ℕ
+roomFault = 7
+
+abbrev pub layoutFault : ℕ
+layoutFault = 8
+
+abbrev pub placeFault : ℕ
+placeFault = 9
+
+-- One test of an input: the refusal number it gives, and whether it applies.
+pub record Test : Type 0 where
+  pub number : ℕ
+  pub applies : Bool
+
+abbrev pub test : ℕ → Bool → Test
+test number applies = record { number = number; applies = applies }
+
+-- The number of the first test that applies; 0 where none does.
+unfoldable pub firstFault : List Test → ℕ
+firstFault [] = 0
+firstFault (t ∷ ts) = cond (t .applies) (t .number) (firstFault ts)
+
+-- No test of the list gives 0, so that 0 says that none applies.
+abbrev pub Numbered : List Test → Type 0
+Numbered ts = (t : Test) → Mem t ts → t .number ≢ 0
+
+-- No test of the list applies.
+abbrev pub NoneApplies : List Test → Type 0
+NoneApplies ts = (t : Test) → Mem t ts → t .applies ≡ false
+
+-- A test of number r applies, and none before it in the list does. That the number is given exactly then is `fault-first`.
+pub record First (ts : List Test) (r : ℕ) : Type 0 where
+  pub before : List Test
+  pub found : Test
+  pub after : List Test
+  pub order : ts ≡ before ++ (found ∷ after)
+  pub passed : NoneApplies before
+  pub applies : found .applies ≡ true
+  pub number : found .number ≡ r
