@@ -15,6 +15,7 @@ ghost use Rattle.basis.specs.Reduced.{vectorsOf, basisOf, IsBasis, Built
 use gf2::MAX_VARIABLES;
 
 // At most MAX_VARIABLES numbers, and how many there are; unused entries are 0.
+#[repr(C)]
 pub struct ShortList {
     pub values: [u16; MAX_VARIABLES],
     pub len: usize,
@@ -43,6 +44,7 @@ impl ShortList {
 }
 
 // A reduced basis: its vectors rising, and how many there are; unused entries are 0.
+#[repr(C)]
 pub struct Basis {
     pub vectors: [u16; MAX_VARIABLES],
     pub len: usize,
