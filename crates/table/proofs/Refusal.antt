@@ -1,4 +1,4 @@
--- Laws of specs.Refusal: a number is given exactly when its test applies and none before it does. They hold of any list of tests. Read next: Table.
+-- Laws of specs.Refusal: a number is given exactly when its test applies and none before it does. They hold of any list of tests. Read next: Decide.
 use mathlib.Core.Path.{_≡_, refl, sym, ap, _∙_}
 use mathlib.Core.Bool.{Bool, true, false, cond}
 use mathlib.Core.Logic.{_≢_, inl, inr, _↔_}
@@ -68,7 +68,7 @@ pub numbered : (ts : List Test) → holds (map (λ t. t .number) ts) 0 ≡ false
 numbered ts e t m z =
     clash (holds-mem (map (λ t. t .number) ts) 0 .1 (rw z at (mem-map (λ t. t .number) ts t m))) e
 
--- ---- further tests after the first ones
+-- ---- further tests, as a call has them after those of its table: they count where the first ones give nothing
 
 pub fault-append : (ts us : List Test) → Numbered ts → firstFault ts ≡ 0 → firstFault (ts ++ us) ≡ firstFault us
 fault-append ts us h e = fault-passed ts us (none ts h e)

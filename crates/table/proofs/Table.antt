@@ -3,7 +3,7 @@ use mathlib.Core.Path.{_≡_, refl}
 use mathlib.Core.Bool.{Bool, true, false, _||_}
 use mathlib.Core.Logic.{inl, inr, _↔_}
 use mathlib.Core.List.{List, [], _∷_}
-use Prim.Native.Nat.{ℕ, zero, suc, _+_, _^_, _≤_, _<_}
+use Prim.Native.Nat.{ℕ, suc, _+_, _^_, _≤_, _<_}
 use native.Mathlib.Nat.{lt-of-lt-of-le}
 use native.Mathlib.Numerals.{add-one}
 use native.Mathlib.Omega.{arith}
@@ -14,25 +14,16 @@ use lib.Dec.{eqb, ltb, leb}
 use borrow.Author.Tests.{eqb-false, ne-eqb, ltb-false, le-ltb, leb-false, lt-leb}
 use Rattle.gf2.specs.Limits.{maxVariables}
 use Rattle.gf2.specs.Finite.{Mem, holds, Rising}
-use Rattle.gf2.proofs.Logic.{clash, same, or-l, or-r, or-cases, or-none}
-use Rattle.gf2.proofs.Finite.{holds-mem}
+use Rattle.gf2.proofs.Logic.{clash, same, or-l, or-r, or-cases, or-none, or-false}
+use Rattle.gf2.proofs.Finite.{holds-mem, getD-mem}
 use Rattle.table.specs.Refusal.{firstFault, Numbered}
 use Rattle.table.specs.Table.{badCount, outside, notAbove, unordered, shared, tableTests, tableFault, Accepted}
 use Rattle.table.proofs.Refusal.{no-fault, numbered}
 
 -- A test that is not true is false.
-refuted : (t : Bool) → (t ≡ true → ⊥) → t ≡ false
+pub refuted : (t : Bool) → (t ≡ true → ⊥) → t ≡ false
 refuted true h = absurd (h refl)
 refuted false h = refl
-
-neither : {a b : Bool} → a ≡ false → b ≡ false → a || b ≡ false
-neither p q = rw (p, q)
-
--- What stands at a place of a list is a member of it.
-pub getD-mem : {A : Type 0} (l : List A) (i : ℕ) (d : A) → i < length l → Mem (getD l i d) l
-getD-mem [] i d h = absurd (omega arith)
-getD-mem (a ∷ l) zero d h = inl refl
-getD-mem (a ∷ l) (suc i) d h = inr (getD-mem l i d (omega arith))
 
 -- ---- refusal 1
 
@@ -40,7 +31,7 @@ pub good-count : (n : ℕ) → (badCount n ≡ false) ↔ ((1 ≤ n) × (n ≤ m
 unfolding badCount
 good-count n = (
   λ e. let h = or-none (eqb n 0) (ltb maxVariables n) e in let z = eqb-false n 0 (h .0) in (omega arith, ltb-false maxVariables n (h .1)),
-  λ h. neither (ne-eqb n 0 (λ z. omega arith)) (le-ltb maxVariables n (h .1)),
+  λ h. or-false (eqb n 0) (ltb maxVariables n) (ne-eqb n 0 (λ z. omega arith)) (le-ltb maxVariables n (h .1)),
 )
 
 -- ---- refusal 2
@@ -56,7 +47,7 @@ inside-at n ps e i h = inside n ps e (getD ps i 0) (getD-mem ps i 0 h)
 pub not-outside : (n : ℕ) (ps : List ℕ) → ((p : ℕ) → Mem p ps → p < 2 ^ n) → outside n ps ≡ false
 unfolding outside
 not-outside n [] h = refl
-not-outside n (p ∷ ps) h = neither (lt-leb (2 ^ n) p (h p (inl refl))) (not-outside n ps (λ q m. h q (inr m)))
+not-outside n (p ∷ ps) h = or-false (leb (2 ^ n) p) (outside n ps) (lt-leb (2 ^ n) p (h p (inl refl))) (not-outside n ps (λ q m. h q (inr m)))
 
 pub outside-more : (n : ℕ) {m : ℕ} (ps : List ℕ) → n ≤ m → outside n ps ≡ false → outside m ps ≡ false
 outside-more n {m} ps h e = not-outside m ps (λ p k. lt-of-lt-of-le (inside n ps e p k) (pow-mono h))
@@ -82,7 +73,7 @@ pub not-unordered : (ps : List ℕ) → Rising ps → unordered ps ≡ false
 unfolding unordered notAbove
 not-unordered [] r = refl
 not-unordered (p ∷ []) r = refl
-not-unordered (p ∷ q ∷ ps) r = neither (lt-leb q p (r .0 q (inl refl))) (not-unordered (q ∷ ps) (r .1))
+not-unordered (p ∷ q ∷ ps) r = or-false (leb q p) (unordered (q ∷ ps)) (lt-leb q p (r .0 q (inl refl))) (not-unordered (q ∷ ps) (r .1))
 
 pub unordered-next : (ps : List ℕ) (i : ℕ) → i + 1 < length ps → unordered (drop i ps) ≡ leb (getD ps (i + 1) 0) (getD ps i 0) || unordered (drop (i + 1) ps)
 unfolding unordered notAbove
@@ -128,12 +119,12 @@ shared-next ps qs i h = rw (add-one, drop-cons ps i 0)
 -- ---- the whole table
 
 pub table-numbered : (n : ℕ) (on free : List ℕ) → Numbered (tableTests n on free)
-unfolding holds
+unfolding holds tableTests
 table-numbered n on free = numbered (tableTests n on free) refl
 
--- A table has no refusal exactly if it is accepted.
+-- A table has no refusal exactly if it is accepted: there, and back.
 pub accepted : (n : ℕ) (on free : List ℕ) → tableFault n on free ≡ 0 → Accepted n on free
-unfolding tableFault
+unfolding tableFault tableTests
 accepted n on free e =
     let none = no-fault (tableTests n on free) (table-numbered n on free) .0 e in
     let count = good-count n .0 (none _ (inl refl)) in
@@ -150,11 +141,11 @@ accepted n on free e =
     }
 
 pub no-refusal : (n : ℕ) (on free : List ℕ) → Accepted n on free → tableFault n on free ≡ 0
-unfolding tableFault firstFault
+unfolding tableFault tableTests firstFault
 no-refusal n on free a = rw (
   good-count n .1 (a .some, a .few),
-  neither (not-outside n on (a .on-below)) (not-outside n free (a .free-below)),
-  neither (not-unordered on (a .on-rising)) (not-unordered free (a .free-rising)),
+  or-false (outside n on) (outside n free) (not-outside n on (a .on-below)) (not-outside n free (a .free-below)),
+  or-false (unordered on) (unordered free) (not-unordered on (a .on-rising)) (not-unordered free (a .free-rising)),
   refuted (shared on free) (λ e. let k = shared-mem on free e in a .apart (k .0) (k .1) (k .2)),
 )
 

@@ -1,4 +1,4 @@
--- Refusal numbers and the order of tests (document 01, "Refusal numbers"). Read next: Table.
+-- Refusal numbers and the order of tests (document 01, "Refusal numbers"). Read next: Decision.
 use mathlib.Core.Path.{_≡_}
 use mathlib.Core.Bool.{Bool, true, false, cond}
 use mathlib.Core.Logic.{_≢_}
@@ -6,39 +6,52 @@ use mathlib.Core.List.{List, [], _∷_, _++_}
 use Prim.Native.Nat.{ℕ}
 use Rattle.gf2.specs.Finite.{Mem}
 
--- The numbers of document 01, "Refusal numbers", each named by what is at fault. 0 is none of them.
+-- ---- the numbers, each with what is at fault; 0 is none of them
+
+-- n is 0 or above the largest number of variables.
 abbrev pub variablesFault : ℕ
 variablesFault = 1
 
+-- A point of either list is 2 ^ n or more.
 abbrev pub pointFault : ℕ
 pointFault = 2
 
+-- A point isn't greater than the one before it in its list.
 abbrev pub orderFault : ℕ
 orderFault = 3
 
+-- A point stands in both lists.
 abbrev pub sharedFault : ℕ
 sharedFault = 4
 
+-- A listing, or a form's restriction, of too many variables.
 abbrev pub sizeFault : ℕ
 sizeFault = 5
 
+-- The smallest affine space of an empty on set.
 abbrev pub affineFault : ℕ
 affineFault = 6
 
+-- An answer is longer than its lent room.
 abbrev pub roomFault : ℕ
 roomFault = 7
 
+-- Bytes aren't a form, or aren't laid out as a table.
 abbrev pub layoutFault : ℕ
 layoutFault = 8
 
+-- A listing place above the number of candidates.
 abbrev pub placeFault : ℕ
 placeFault = 9
+
+-- ---- tests in their order
 
 -- One test of an input: the refusal number it gives, and whether it applies.
 pub record Test : Type 0 where
   pub number : ℕ
   pub applies : Bool
 
+-- The test that gives this number where this applies.
 abbrev pub test : ℕ → Bool → Test
 test number applies = record { number = number; applies = applies }
 

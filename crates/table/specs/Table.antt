@@ -32,8 +32,8 @@ unfoldable pub shared : List ℕ → List ℕ → Bool
 shared [] free = false
 shared (p ∷ on) free = holds free p || shared on free
 
--- The tests of a table in their order, each over both lists before the next.
-abbrev pub tableTests : ℕ → List ℕ → List ℕ → List Test
+-- The tests of a table in the order of document 01, "Refusal numbers", each over both lists before the next.
+unfoldable pub tableTests : ℕ → List ℕ → List ℕ → List Test
 tableTests n on free =
     test variablesFault (badCount n) ∷
     test pointFault (outside n on || outside n free) ∷
@@ -41,11 +41,12 @@ tableTests n on free =
     test sharedFault (shared on free) ∷
     []
 
--- The refusal of a table, or 0.
+-- The refusal number of a table, or 0 where it has none.
 unfoldable pub tableFault : ℕ → List ℕ → List ℕ → ℕ
 tableFault n on free = firstFault (tableTests n on free)
 
--- A table that none of refusals 1 to 4 applies to. That it is one that has no refusal is `accepted`.
+-- An accepted table (document 01, "Primes"): none of refusals 1 to 4 applies to it. That these are the tables without a refusal is
+-- `accepted` and `no-refusal`.
 pub record Accepted (n : ℕ) (on free : List ℕ) : Type 0 where
   pub some : 1 ≤ n
   pub few : n ≤ maxVariables

@@ -8,7 +8,7 @@ ghost use Rattle.gf2.specs.Limits.{maxVariables};
 ghost use Rattle.table.specs.Table.{badCount, outside, unordered, shared, tableFault};
 ghost use Rattle.table.specs.Flags.{marked, flagsOf};
 
-// The refusal numbers of document 01, as in specs/.
+// The refusal numbers of document 01, "Refusal numbers", as in specs/.
 pub const VARIABLES_FAULT: u8 = 1;
 
 pub const POINT_FAULT: u8 = 2;
@@ -123,7 +123,7 @@ pub fn shared(on: &[u16], free: &[u16]) -> bool
     false
 }
 
-// The refusal of a table, or 0: the tests in their order, each over both lists before the next.
+// The refusal number of a table, or 0: the tests in their order, each over both lists before the next.
 pub fn table_fault(n: usize, on: &[u16], free: &[u16]) -> u8
     ensures { λ r. ⌜ r ≡ tableFault n (now (on .entry)) (now (free .entry)) ⌝ }
 {

@@ -3,7 +3,7 @@ use mathlib.Core.Path.{_≡_, sym, _∙_}
 use mathlib.Core.Bool.{Bool}
 use borrow.Author.Needs.{needs}
 use Rattle.table.specs.Refusal.{firstFault}
-use Rattle.table.specs.Table.{tableFault}
+use Rattle.table.specs.Table.{tableTests, tableFault}
 use Rattle.table.proofs.Table.{good-count, outside-more}
 use Rattle.table.proofs.table_fault.Statement.{statement}
 use Rattle.table.proofs.table_fault.Tie as tie
@@ -16,7 +16,7 @@ bad-count-requires : tie.Need-bad-count-requires
 bad-count-requires c κs = search needs
 
 returns : tie.Need-returns
-unfolding tableFault firstFault
+unfolding tableFault tableTests firstFault
 returns c =
     let b = c .before in
     rw (known (b .bad-count .ensures) (c .if1 .taken))
@@ -25,7 +25,7 @@ outside-requires : tie.Need-outside-requires
 outside-requires c κs = good-count _ .0 (known (c .before .bad-count .ensures) (c .if1 .left)) .1
 
 returns-2 : tie.Need-returns-2
-unfolding tableFault firstFault
+unfolding tableFault tableTests firstFault
 returns-2 c =
     let o = c .before in
     let b = o .before .before in
@@ -38,7 +38,7 @@ outside-requires-2 : tie.Need-outside-requires-2
 outside-requires-2 c κs = good-count _ .0 (known (c .before .before .before .bad-count .ensures) (c .before .before .if1 .left)) .1
 
 returns-3 : tie.Need-returns-3
-unfolding tableFault firstFault
+unfolding tableFault tableTests firstFault
 returns-3 c =
     let f = c .before in
     let o = f .before .before in
@@ -53,7 +53,7 @@ unordered-requires : tie.Need-unordered-requires
 unordered-requires c κs = search needs
 
 returns-4 : tie.Need-returns-4
-unfolding tableFault firstFault
+unfolding tableFault tableTests firstFault
 returns-4 c =
     let u = c .before in
     let f = u .before .before in
@@ -70,7 +70,7 @@ unordered-requires-2 : tie.Need-unordered-requires-2
 unordered-requires-2 c κs = search needs
 
 returns-5 : tie.Need-returns-5
-unfolding tableFault firstFault
+unfolding tableFault tableTests firstFault
 returns-5 c =
     let v = c .before in
     let u = v .before .before in
@@ -96,7 +96,7 @@ shared-requires c κs =
     (outside-more _ _ few (known (o .outside .ensures) (f .before .if2 .left)), outside-more _ _ few (known (f .outside2 .ensures) (u .before .if3 .left)))
 
 returns-6 : tie.Need-returns-6
-unfolding tableFault firstFault
+unfolding tableFault tableTests firstFault
 returns-6 c =
     let s = c .before in
     let v = s .before .before in
@@ -114,7 +114,7 @@ returns-6 c =
     )
 
 returns-7 : tie.Need-returns-7
-unfolding tableFault firstFault
+unfolding tableFault tableTests firstFault
 returns-7 c =
     let s = c .before in
     let v = s .before .before in

@@ -1,0 +1,40 @@
+-- Laws of one decision over a list of tests: what is given where none applies, where an early one does, and where only the last does. Read next: Table.
+use mathlib.Core.Path.{_≡_, refl, sym, ap, _∙_}
+use mathlib.Core.Bool.{true, false, cond}
+use mathlib.Core.Logic.{_≢_}
+use mathlib.Core.List.{List, [], _∷_, _++_}
+use Prim.Native.Nat.{ℕ, _≤_, _<_}
+use lib.Dec.{eqb, ltb}
+use lib.ListN.{length}
+use borrow.Author.Tests.{eq-eqb, ne-eqb, lt-ltb, le-ltb}
+use Rattle.table.specs.Refusal.{Test, test, firstFault, Numbered, roomFault}
+use Rattle.table.proofs.Refusal.{fault-append, fault-before}
+use Rattle.table.specs.Decision.{decide, roomTest}
+
+-- ---- a decision by the number of its first fault
+
+pub decide-accepted : {A : Type 0} (ts : List Test) (a : A) (r : ℕ → A) → firstFault ts ≡ 0 → decide ts a r ≡ a
+decide-accepted ts a r e = rw (eq-eqb (firstFault ts) 0 e)
+
+pub decide-refused : {A : Type 0} (ts : List Test) (a : A) (r : ℕ → A) (k : ℕ) → k ≢ 0 → firstFault ts ≡ k → decide ts a r ≡ r k
+decide-refused ts a r k n e = rw (e, ne-eqb k 0 n)
+
+-- ---- tests of the table first, then one of the room
+
+module _ (ts us : List Test) where
+  -- A fault of the table is the fault of the call.
+  pub table-refused : (k : ℕ) → firstFault ts ≡ k → k ≢ 0 → firstFault (ts ++ us) ≡ k
+  table-refused k e n = fault-before ts us (λ z. n (sym e ∙ z)) ∙ e
+
+  -- A sound table leaves the decision to the other tests.
+  pub table-passed : Numbered ts → firstFault ts ≡ 0 → firstFault (ts ++ us) ≡ firstFault us
+  table-passed h e = fault-append ts us h e
+
+-- The last test: an answer that is longer than its room.
+pub room-short : {A : Type 0} (answer room : List A) → length room < length answer → firstFault (roomTest answer room) ≡ roomFault
+unfolding firstFault
+room-short answer room h = rw (lt-ltb (length room) (length answer) h)
+
+pub room-enough : {A : Type 0} (answer room : List A) → length answer ≤ length room → firstFault (roomTest answer room) ≡ 0
+unfolding firstFault
+room-enough answer room h = rw (le-ltb (length room) (length answer) h)
