@@ -4,12 +4,13 @@ use mathlib.Core.Bool.{true, false, cond}
 use mathlib.Core.Logic.{_≢_}
 use mathlib.Core.List.{List, [], _∷_, _++_}
 use Prim.Native.Nat.{ℕ, _≤_, _<_}
+use native.Mathlib.Omega.{arith}
 use lib.Dec.{eqb, ltb}
 use lib.ListN.{length}
 use borrow.Author.Tests.{eq-eqb, ne-eqb, lt-ltb, le-ltb}
 use Rattle.table.specs.Refusal.{Test, test, firstFault, Numbered, roomFault}
 use Rattle.table.proofs.Refusal.{fault-append, fault-before}
-use Rattle.table.specs.Decision.{decide, roomTest}
+use Rattle.table.specs.Decision.{decide, front, roomAfter, roomTest}
 
 -- ---- a decision by the number of its first fault
 
@@ -38,3 +39,26 @@ room-short answer room h = rw (lt-ltb (length room) (length answer) h)
 pub room-enough : {A : Type 0} (answer room : List A) → length answer ≤ length room → firstFault (roomTest answer room) ≡ 0
 unfolding firstFault
 room-enough answer room h = rw (le-ltb (length room) (length answer) h)
+
+-- ---- a call with one room, which it tests last: its answer and its room, by what was found
+
+module _ {A B : Type 0} (ts : List Test) (answer room : List B) (accepted : A) (refused : ℕ → A) where
+  abbrev tests : List Test
+  tests = ts ++ roomTest answer room
+
+  pub call-refused : (k : ℕ) → k ≡ firstFault ts → k ≢ 0 → (refused k ≡ decide tests accepted refused) × (room ≡ roomAfter tests answer room)
+  call-refused k e n =
+      let f = table-refused ts (roomTest answer room) k (sym e) n in
+      (sym (decide-refused tests accepted refused k n f), sym (decide-refused tests (front answer room) (λ r. room) k n f))
+
+  pub call-short : Numbered ts → firstFault ts ≡ 0 → length room < length answer → (refused roomFault ≡ decide tests accepted refused) × (room ≡ roomAfter tests answer room)
+  call-short h e l =
+      let f = table-passed ts (roomTest answer room) h e ∙ room-short answer room l in
+      let n : roomFault ≢ 0 = λ z. omega arith in
+      (sym (decide-refused tests accepted refused roomFault n f), sym (decide-refused tests (front answer room) (λ r. room) roomFault n f))
+
+  pub call-accepted : Numbered ts → firstFault ts ≡ 0 → length answer ≤ length room
+      → (accepted ≡ decide tests accepted refused) × (front answer room ≡ roomAfter tests answer room)
+  call-accepted h e l =
+      let f = table-passed ts (roomTest answer room) h e ∙ room-enough answer room l in
+      (sym (decide-accepted tests accepted refused f), sym (decide-accepted tests (front answer room) (λ r. room) f))
