@@ -4,12 +4,13 @@ use mathlib.Core.Bool.{true, false, cond}
 use mathlib.Core.Logic.{_≢_}
 use mathlib.Core.List.{List, [], _∷_, _++_}
 use Prim.Native.Nat.{ℕ, _≤_, _<_}
+use native.Mathlib.Decide.{ℕ-discrete}
 use native.Mathlib.Omega.{arith}
 use lib.Dec.{eqb, ltb}
 use lib.ListN.{length}
 use borrow.Author.Tests.{eq-eqb, ne-eqb, lt-ltb, le-ltb}
-use Rattle.table.specs.Refusal.{Test, test, firstFault, Numbered, roomFault}
-use Rattle.table.proofs.Refusal.{fault-append, fault-before}
+use Rattle.table.specs.Refusal.{Test, test, firstFault, Numbered, Exact, roomFault}
+use Rattle.table.proofs.Refusal.{fault-first, no-fault, fault-append, fault-before}
 use Rattle.table.specs.Decision.{decide, front, roomAfter, roomTest}
 
 -- ---- a decision by the number of its first fault
@@ -19,6 +20,15 @@ decide-accepted ts a r e = rw (eq-eqb (firstFault ts) 0 e)
 
 pub decide-refused : {A : Type 0} (ts : List Test) (a : A) (r : ℕ → A) (k : ℕ) → k ≢ 0 → firstFault ts ≡ k → decide ts a r ≡ r k
 decide-refused ts a r k n e = rw (e, ne-eqb k 0 n)
+
+-- The refusal number that an answer carries is exact.
+pub decide-exact : {A : Type 0} (number : A → ℕ) (ts : List Test) (a : A) (r : ℕ → A) → Numbered ts → number a ≡ 0 → ((k : ℕ) → number (r k) ≡ k)
+    → Exact ts (number (decide ts a r))
+decide-exact {A} number ts a r h z k = rw (given (ℕ-discrete (firstFault ts) 0)) (record { refused = fault-first ts; accepted = no-fault ts h })
+  where
+    given : Dec (firstFault ts ≡ 0) → number (decide ts a r) ≡ firstFault ts
+    given (yes e) = ap number (decide-accepted ts a r e) ∙ z ∙ sym e
+    given (no n) = ap number (decide-refused ts a r (firstFault ts) n refl) ∙ k (firstFault ts)
 
 -- ---- tests of the table first, then one of the room
 

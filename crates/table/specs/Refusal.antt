@@ -1,7 +1,7 @@
 -- Refusal numbers and the order of tests (document 01, "Refusal numbers"). Read next: Decision.
 use mathlib.Core.Path.{_≡_}
 use mathlib.Core.Bool.{Bool, true, false, cond}
-use mathlib.Core.Logic.{_≢_}
+use mathlib.Core.Logic.{_≢_, _↔_}
 use mathlib.Core.List.{List, [], _∷_, _++_}
 use Prim.Native.Nat.{ℕ}
 use Rattle.gf2.specs.Finite.{Mem}
@@ -77,3 +77,9 @@ pub record First (ts : List Test) (r : ℕ) : Type 0 where
   pub passed : NoneApplies before
   pub applies : found .applies ≡ true
   pub number : found .number ≡ r
+
+-- A number is the refusal of these tests: r is given exactly when a test of number r applies and none before it does, and 0 exactly when
+-- none applies.
+pub record Exact (ts : List Test) (number : ℕ) : Type 0 where
+  pub refused : (r : ℕ) → r ≢ 0 → (number ≡ r) ↔ First ts r
+  pub accepted : (number ≡ 0) ↔ NoneApplies ts
