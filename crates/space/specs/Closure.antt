@@ -1,5 +1,5 @@
 -- The linear space of a complete function and its degree (document 01, "Points and spaces").
--- A complete function of n variables is a test on points: it is on at the points below 2 ^ n that pass. Read next: Completion.
+-- A complete function of n variables is a test on points: it is on at the points below 2 ^ n that pass. Read next: Witness.
 use mathlib.Core.Bool.{Bool, Bool·beq}
 use mathlib.Core.List.{List}
 use Prim.Native.Nat.{ℕ, _^_}

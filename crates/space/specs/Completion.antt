@@ -1,11 +1,15 @@
 -- The completion of a table (document 01, "Points and spaces"): a table is a list of on points and a list of free points; all others are
 -- off. Read next: Restriction.
+use mathlib.Core.Path.{_≡_}
 use mathlib.Core.Bool.{Bool, cond, _||_}
 use mathlib.Core.List.{List}
-use Prim.Native.Nat.{ℕ, _^_}
+use Prim.Native.Nat.{ℕ, _^_, _<_}
 use lib.Dec.{ltb}
-use Rattle.gf2.specs.Finite.{holds, select}
-use Rattle.space.specs.Closure.{degree}
+use Rattle.gf2.specs.Finite.{holds, select, In}
+use Rattle.basis.specs.Reduced.{Built}
+use Rattle.space.specs.declared.Completed.{Completed}
+use Rattle.space.specs.Closure.{closed, linearSpace, degree}
+use Rattle.space.specs.Witness.{flagged}
 
 -- The complete function with all free points off: its on points are the table's.
 abbrev pub allOff : List ℕ → ℕ → Bool
@@ -30,3 +34,10 @@ completed n on free = cond (ltb (lowDegree n on) (highDegree n on free)) (allOn 
 -- The on points of the completed function, rising.
 unfoldable pub completedPoints : ℕ → List ℕ → List ℕ → List ℕ
 completedPoints n on free = select (completed n on free) (2 ^ n)
+
+-- A table completed: the flags are those of the completed function, the basis is that of its linear space, and low and high are k0 and k1.
+pub record IsCompleted (n : ℕ) (on free : List ℕ) (r : Completed) : Type 0 where
+  pub flags : (w : ℕ) → w < 2 ^ n → flagged (r .flags) w ≡ completed n on free w
+  pub basis : Built (r .basis) (linearSpace n (completed n on free)) (In n (closed n (completed n on free)))
+  pub low : r .low ≡ lowDegree n on
+  pub high : r .high ≡ highDegree n on free

@@ -1,2 +1,123 @@
 // The spaces of a table (document 01, "Points and spaces"): linear space and degree, completion, reduction equations, restriction, and the
 // smallest affine space. What the words mean is in specs/, the laws about them in proofs/.
+use basis::Basis;
+use table::MAX_POINTS;
+ghost use mathlib.Core.Path.{_≡_};
+ghost use mathlib.Core.List.{[]};
+ghost use Prim.Native.Nat.{_+_, _^_, _≤_, _<_};
+ghost use Rattle.gf2.specs.Limits.{maxVariables};
+ghost use Rattle.gf2.specs.Finite.{select, In};
+ghost use Rattle.gf2.specs.Basis.{inserts};
+ghost use Rattle.basis.specs.Reduced.{basisOf, Built};
+ghost use Rattle.table.specs.Table.{Accepted};
+ghost use Rattle.space.specs.Closure.{closed, linearSpace};
+ghost use Rattle.space.specs.Witness.{flagged, Answers};
+ghost use Rattle.space.specs.Completion.{IsCompleted};
+
+// What a search for a break of closure finds: a vector and a point, or none.
+pub enum Witness {
+    At(u16, u16),
+    None,
+}
+
+// The first break of closure, in rising order of vector and then point, over the vectors from `from` to below `to` and all points.
+pub fn first_witness(flags: &[bool; MAX_POINTS], n: usize, from: u16, to: u16) -> Witness
+    requires { ⌜ n ≤ maxVariables ⌝ }
+    requires { ⌜ from ≤ to ⌝ }
+    requires { ⌜ to ≤ 2 ^ n ⌝ }
+    ensures { λ r. ⌜ Answers (flagged (now (flags .entry))) (2 ^ n) from to r ⌝ }
+{
+    let count = table::point_count(n);
+    let mut found = Witness::None;
+    let mut a = from;
+    'search: while a < to {
+        let mut p: u16 = 0;
+        while p < count {
+            if flags[(p ^ a) as usize] != flags[p as usize] {
+                found = Witness::At(a, p);
+                break 'search;
+            }
+            p += 1;
+        }
+        a += 1;
+    }
+    found
+}
+
+// Whether the function is closed under the vector: the search over that vector alone finds no break.
+pub fn is_closed(flags: &[bool; MAX_POINTS], n: usize, v: u16) -> bool
+    requires { ⌜ n ≤ maxVariables ⌝ }
+    requires { ⌜ v < 2 ^ n ⌝ }
+    ensures { λ r. ⌜ r ≡ closed n (flagged (now (flags .entry))) v ⌝ }
+{
+    let Witness::None = first_witness(flags, n, v, v + 1) else {
+        return false;
+    };
+    true
+}
+
+// The basis of the closed vectors below v, grown by v if the function is closed under it. A vector already in the space needs no search.
+fn grown(basis: Basis, flags: &[bool; MAX_POINTS], n: usize, v: u16) -> Basis
+    requires { ⌜ n ≤ maxVariables ⌝ }
+    requires { ⌜ v < 2 ^ n ⌝ }
+    requires { ⌜ basis ≡ basisOf (inserts [] (select (closed n (flagged (now flags))) v)) ⌝ }
+    ensures { λ r. ⌜ r ≡ basisOf (inserts [] (select (closed n (flagged (now (flags .entry)))) (v + 1))) ⌝ }
+{
+    if basis.contains(v) {
+        return basis;
+    }
+    if is_closed(flags, n, v) {
+        return basis.insert(v);
+    }
+    basis
+}
+
+// The linear space of the function, by its reduced basis. The vector 0 is in every space, so the search starts at 1.
+pub fn linear_space(flags: &[bool; MAX_POINTS], n: usize) -> Basis
+    requires { ⌜ n ≤ maxVariables ⌝ }
+    ensures { λ r. ⌜ Built r (linearSpace n (flagged (now (flags .entry)))) (In n (closed n (flagged (now (flags .entry))))) ⌝ }
+{
+    let count = table::point_count(n);
+    let mut basis = Basis::EMPTY;
+    let mut v: u16 = 1;
+    while v < count {
+        basis = grown(basis, flags, n, v);
+        v += 1;
+    }
+    basis
+}
+
+// A completed table: the flags of the completed function, its linear space, and the two degrees that were compared, k0 and k1.
+pub struct Completed {
+    pub flags: [bool; MAX_POINTS],
+    pub basis: Basis,
+    pub low: usize,
+    pub high: usize,
+}
+
+// The completion of an accepted table: that of the larger degree; on a tie, all free points off.
+pub fn complete(n: usize, on: &[u16], free: &[u16]) -> Completed
+    requires { ⌜ Accepted n (now on) (now free) ⌝ }
+    ensures { λ r. ⌜ IsCompleted n (now (on .entry)) (now (free .entry)) r ⌝ }
+{
+    let all_off = table::flags_of(on);
+    let all_on = table::mark(free, all_off);
+    let low_space = linear_space(&all_off, n);
+    let high_space = linear_space(&all_on, n);
+    let low = low_space.degree();
+    let high = high_space.degree();
+    if low < high {
+        return Completed {
+            flags: all_on,
+            basis: high_space,
+            low,
+            high,
+        };
+    }
+    Completed {
+        flags: all_off,
+        basis: low_space,
+        low,
+        high,
+    }
+}

@@ -1,0 +1,88 @@
+-- The answer of `affine`, from the directions of the on points.
+use mathlib.Core.Path.{_≡_, refl, sym, ap, ap₂, _∙_}
+use mathlib.Core.Logic.{_≢_}
+use mathlib.Core.List.{List, [], _∷_, _++_}
+use Prim.Native.Nat.{ℕ, _≤_, _<_}
+use native.Mathlib.Omega.{arith}
+use borrow.Author.Tests.{eq-eqb, ne-eqb}
+use lib.Dec.{eqb}
+use lib.ListN.{length, getD, length-map}
+use Rattle.gf2.specs.Finite.{holds}
+use Rattle.gf2.specs.Basis.{Reduced, reduce, leadMask, canonicalPlaces}
+use Rattle.basis.specs.declared.Basis.{Basis}
+use Rattle.basis.specs.Reduced.{vectorsOf, basisOf}
+use Rattle.basis.proofs.Values.{vectors-back}
+use Rattle.table.specs.Refusal.{test, firstFault, Numbered, affineFault, roomFault}
+use Rattle.table.specs.Decision.{front}
+use Rattle.table.specs.Table.{tableTests, tableFault}
+use Rattle.table.proofs.Refusal.{numbered}
+use Rattle.table.proofs.Table.{table-numbered}
+use Rattle.table.proofs.Decide.{table-refused, table-passed, call-refused, call-short, call-accepted}
+use Rattle.space.specs.Restriction.{project}
+use Rattle.space.specs.Affine.{directions, projection}
+use Rattle.projection.specs.Masks.{projected as byMask}
+use Rattle.projection.proofs.Masks.{projected-projection}
+use Rattle.projection.proofs.Steps.{least-reduced}
+use Rattle.glospruma.specs.declared.Affine.{Affine}
+use Rattle.glospruma.specs.Affine.{projected, onTests, affineAccepted, affineRefused, affineAnswer, affineRoom}
+
+-- ---- refusals before the room's
+
+module _ (n : ℕ) (on : List ℕ) where
+  pub on-refused : (k : ℕ) → k ≡ tableFault n on [] → k ≢ 0 → k ≡ firstFault (onTests n on)
+  unfolding tableFault
+  on-refused k e z = sym (table-refused (tableTests n on []) (test affineFault (eqb (length on) 0) ∷ []) k (sym e) z)
+
+  pub on-empty : tableFault n on [] ≡ 0 → length on ≡ 0 → affineFault ≡ firstFault (onTests n on)
+  unfolding tableFault firstFault
+  on-empty e z = sym (table-passed (tableTests n on []) (test affineFault (eqb (length on) 0) ∷ []) (table-numbered n on []) e ∙ rw (eq-eqb (length on) 0 z))
+
+  pub on-passed : tableFault n on [] ≡ 0 → length on ≢ 0 → firstFault (onTests n on) ≡ 0
+  unfolding tableFault firstFault
+  on-passed e z = table-passed (tableTests n on []) (test affineFault (eqb (length on) 0) ∷ []) (table-numbered n on []) e ∙ rw (ne-eqb (length on) 0 z)
+
+  -- Every point is projected.
+  pub projected-all : length (projected n on) ≡ length on
+  unfolding projection
+  projected-all = length-map on (project (canonicalPlaces n (directions on)))
+
+  pub on-numbered : Numbered (onTests n on)
+  unfolding holds tableTests
+  on-numbered = numbered (onTests n on) refl
+
+-- ---- the numbers and the room
+
+module _ (n : ℕ) (on : List ℕ) (b : Basis) (value : b ≡ basisOf (directions on)) where
+  pub affine-numbers : 0 < length on → (least : ℕ) → least ≡ reduce (vectorsOf b) (getD on 0 0)
+      → _≡_ {A = Affine} (record { refusal = 0; least = least; dimension = b .len; basis = b; count = length on }) (affineAccepted n on)
+  affine-numbers some least e =
+      ap (λ (x : Basis). record { refusal = 0; least = least; dimension = x .len; basis = x; count = length on }) value
+      ∙ ap₂ (λ (x y : ℕ). record { refusal = 0; least = x; dimension = length (directions on); basis = basisOf (directions on); count = y })
+      (e ∙ least-reduced on b some value) (sym (projected-all n on))
+
+  pub affine-projected : Reduced (vectorsOf b) → (m : ℕ) → m ≡ leadMask (vectorsOf b) → byMask n m on ≡ projected n on
+  affine-projected r m e =
+      ap (λ (x : ℕ). byMask n x on) e ∙ projected-projection n (vectorsOf b) r on
+      ∙ ap (λ bs. projection n bs on) (ap vectorsOf value ∙ vectors-back (directions on))
+
+-- ---- the ways out of a call
+
+module _ (n : ℕ) (on room : List ℕ) where
+  pub affine-refused : (k : ℕ) → k ≡ firstFault (onTests n on) → k ≢ 0 → (x : Affine) → x ≡ affineRefused k
+      → (x ≡ affineAnswer n on room) × (room ≡ affineRoom n on room)
+  affine-refused k e z x q =
+      let p = call-refused (onTests n on) (projected n on) room (affineAccepted n on) affineRefused k e z in
+      (q ∙ p .0, p .1)
+
+  pub affine-short : firstFault (onTests n on) ≡ 0 → length room < length on → (x : Affine) → x ≡ affineRefused roomFault
+      → (x ≡ affineAnswer n on room) × (room ≡ affineRoom n on room)
+  affine-short e l x q =
+      let p = call-short (onTests n on) (projected n on) room (affineAccepted n on) affineRefused (on-numbered n on) e (omega (arith, projected-all n on)) in
+      (q ∙ p .0, p .1)
+
+  pub affine-accepted : firstFault (onTests n on) ≡ 0 → length on ≤ length room → (x : Affine) (after : List ℕ)
+      → x ≡ affineAccepted n on → after ≡ front (projected n on) room
+      → (x ≡ affineAnswer n on room) × (after ≡ affineRoom n on room)
+  affine-accepted e l x after q r =
+      let p = call-accepted (onTests n on) (projected n on) room (affineAccepted n on) affineRefused (on-numbered n on) e (omega (arith, projected-all n on)) in
+      (q ∙ p .0, r ∙ p .1)

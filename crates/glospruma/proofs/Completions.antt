@@ -1,0 +1,126 @@
+-- The answers of `complete` and `analyse`, from a completed table. Read next: AffineSpaces.
+use mathlib.Core.Path.{_≡_, refl, sym, ap, ap₂, _∙_}
+use mathlib.Core.Logic.{_≢_}
+use mathlib.Core.List.{List}
+use Prim.Native.Nat.{ℕ, _^_, _≤_, _<_}
+use lib.ListN.{length}
+use Rattle.gf2.specs.Finite.{select}
+use Rattle.gf2.specs.Basis.{leadMask, canonicalPlaces, variablesAt}
+use Rattle.gf2.proofs.Finite.{select-ext}
+use Rattle.basis.specs.declared.Basis.{Basis}
+use Rattle.basis.specs.declared.ShortList.{ShortList}
+use Rattle.basis.specs.Short.{short}
+use Rattle.basis.specs.Reduced.{vectorsOf, basisOf}
+use Rattle.basis.proofs.Values.{vectors-back}
+use Rattle.table.specs.Refusal.{roomFault}
+use Rattle.table.specs.Decision.{front}
+use Rattle.table.specs.Table.{tableTests, tableFault}
+use Rattle.table.proofs.Decide.{call-refused, call-short, call-accepted}
+use Rattle.table.proofs.Table.{table-numbered}
+use Rattle.space.specs.declared.Completed.{Completed}
+use Rattle.space.specs.Closure.{degree}
+use Rattle.space.specs.Witness.{flagged}
+use Rattle.space.specs.Completion.{completed, completedPoints, IsCompleted}
+use Rattle.space.specs.Restriction.{equations}
+use Rattle.space.proofs.Closure.{linear-reduced}
+use Rattle.space.proofs.Restriction.{restriction-ext}
+use Rattle.projection.specs.Masks.{kept}
+use Rattle.projection.proofs.Masks.{kept-restriction, kept-all}
+use Rattle.glospruma.specs.declared.Completion.{Completion}
+use Rattle.glospruma.specs.declared.Analysis.{Analysis}
+use Rattle.glospruma.specs.Spaces.{completeAccepted, completeRefused, completeAnswer, completeRoom, analyseAccepted, analyseRefused, analyseAnswer, analyseRoom, completedSpace, completedRestriction}
+
+module _ (n : ℕ) (on free : List ℕ) (r : Completed) (k : IsCompleted n on free r) where
+  -- All points of the completed function are kept by the mask 0.
+  pub points-kept : kept n 0 (flagged (r .flags)) ≡ completedPoints n on free
+  unfolding completedPoints
+  points-kept = kept-all n (flagged (r .flags)) ∙ select-ext (flagged (r .flags)) (completed n on free) (2 ^ n) (k .flags)
+
+  -- Its vectors.
+  pub space-vectors : vectorsOf (r .basis) ≡ completedSpace n on free
+  space-vectors = ap vectorsOf (k .basis .value) ∙ vectors-back (completedSpace n on free)
+
+  -- The lead mask of its linear space keeps the restriction.
+  pub restriction-kept : (m : ℕ) → m ≡ leadMask (vectorsOf (r .basis)) → kept n m (flagged (r .flags)) ≡ completedRestriction n on free
+  restriction-kept m e =
+      ap (λ (x : ℕ). kept n x (flagged (r .flags))) (e ∙ ap leadMask space-vectors)
+      ∙ kept-restriction n (completedSpace n on free) (linear-reduced n (completed n on free)) (flagged (r .flags))
+      ∙ restriction-ext n (completedSpace n on free) (flagged (r .flags)) (completed n on free) (k .flags)
+
+  space-len : r .basis .len ≡ degree n (completed n on free)
+  unfolding degree
+  space-len = ap (λ (b : Basis). b .len) (k .basis .value)
+
+  pub complete-numbers : (count : ℕ) → count ≡ length (kept n 0 (flagged (r .flags)))
+      → _≡_ {A = Completion} (record { refusal = 0; count = count; degree = r .basis .len; low = r .low; high = r .high }) (completeAccepted n on free)
+  complete-numbers count e =
+      let c : count ≡ length (completedPoints n on free) = e ∙ ap length points-kept in
+      rw (c, space-len, k .low, k .high)
+
+  pub analyse-numbers : (count m : ℕ) (canonical equations′ : ShortList) → m ≡ leadMask (vectorsOf (r .basis)) → count ≡ length (kept n m (flagged (r .flags)))
+      → canonical ≡ short (variablesAt n (canonicalPlaces n (vectorsOf (r .basis)))) → equations′ ≡ short (equations n (vectorsOf (r .basis)))
+      → _≡_ {A = Analysis} (record { refusal = 0; degree = r .basis .len; basis = r .basis; canonical = canonical; equations = equations′; count = count }) (analyseAccepted n on free)
+  unfolding degree
+  analyse-numbers count m canonical equations′ e q x y =
+      let bs = completedSpace n on free in
+      let c : count ≡ length (completedRestriction n on free) = q ∙ ap length (restriction-kept m e) in
+      let xs : canonical ≡ short (variablesAt n (canonicalPlaces n (completedSpace n on free))) = x ∙ ap (λ bs. short (variablesAt n (canonicalPlaces n bs))) space-vectors in
+      let ys : equations′ ≡ short (equations n (completedSpace n on free)) = y ∙ ap (λ bs. short (equations n bs)) space-vectors in
+      ap (λ (b : Basis). record { refusal = 0; degree = b .len; basis = b; canonical = canonical; equations = equations′; count = count }) (k .basis .value)
+      ∙ ap (λ (z : ShortList). record { refusal = 0; degree = length bs; basis = basisOf bs; canonical = z; equations = equations′; count = count }) xs
+      ∙ ap (λ (z : ShortList). record { refusal = 0; degree = length bs; basis = basisOf bs; canonical = short (variablesAt n (canonicalPlaces n bs)); equations = z; count = count }) ys
+      ∙ ap (λ (z : ℕ). record {
+        refusal = 0;
+        degree = length bs;
+        basis = basisOf bs;
+        canonical = short (variablesAt n (canonicalPlaces n bs));
+        equations = short (equations n bs);
+        count = z;
+      }) c
+
+-- ---- the three ways out of a call: refused for the table, refused for the room, accepted
+
+module _ (n : ℕ) (on free room : List ℕ) where
+  pub complete-refused : (k : ℕ) → k ≡ tableFault n on free → k ≢ 0 → (x : Completion) → x ≡ completeRefused k
+      → (x ≡ completeAnswer n on free room) × (room ≡ completeRoom n on free room)
+  unfolding tableFault
+  complete-refused k e z x q =
+      let p = call-refused (tableTests n on free) (completedPoints n on free) room (completeAccepted n on free) completeRefused k e z in
+      (q ∙ p .0, p .1)
+
+  pub complete-short : tableFault n on free ≡ 0 → length room < length (completedPoints n on free) → (x : Completion) → x ≡ completeRefused roomFault
+      → (x ≡ completeAnswer n on free room) × (room ≡ completeRoom n on free room)
+  unfolding tableFault
+  complete-short e l x q =
+      let p = call-short (tableTests n on free) (completedPoints n on free) room (completeAccepted n on free) completeRefused (table-numbered n on free) e l in
+      (q ∙ p .0, p .1)
+
+  pub complete-accepted : tableFault n on free ≡ 0 → length (completedPoints n on free) ≤ length room → (x : Completion) (after : List ℕ)
+      → x ≡ completeAccepted n on free → after ≡ front (completedPoints n on free) room
+      → (x ≡ completeAnswer n on free room) × (after ≡ completeRoom n on free room)
+  unfolding tableFault
+  complete-accepted e l x after q r =
+      let p = call-accepted (tableTests n on free) (completedPoints n on free) room (completeAccepted n on free) completeRefused (table-numbered n on free) e l in
+      (q ∙ p .0, r ∙ p .1)
+
+  pub analyse-refused : (k : ℕ) → k ≡ tableFault n on free → k ≢ 0 → (x : Analysis) → x ≡ analyseRefused k
+      → (x ≡ analyseAnswer n on free room) × (room ≡ analyseRoom n on free room)
+  unfolding tableFault
+  analyse-refused k e z x q =
+      let p = call-refused (tableTests n on free) (completedRestriction n on free) room (analyseAccepted n on free) analyseRefused k e z in
+      (q ∙ p .0, p .1)
+
+  pub analyse-short : tableFault n on free ≡ 0 → length room < length (completedRestriction n on free) → (x : Analysis) → x ≡ analyseRefused roomFault
+      → (x ≡ analyseAnswer n on free room) × (room ≡ analyseRoom n on free room)
+  unfolding tableFault
+  analyse-short e l x q =
+      let p = call-short (tableTests n on free) (completedRestriction n on free) room (analyseAccepted n on free) analyseRefused (table-numbered n on free) e l in
+      (q ∙ p .0, p .1)
+
+  pub analyse-accepted : tableFault n on free ≡ 0 → length (completedRestriction n on free) ≤ length room → (x : Analysis) (after : List ℕ)
+      → x ≡ analyseAccepted n on free → after ≡ front (completedRestriction n on free) room
+      → (x ≡ analyseAnswer n on free room) × (after ≡ analyseRoom n on free room)
+  unfolding tableFault
+  analyse-accepted e l x after q r =
+      let p = call-accepted (tableTests n on free) (completedRestriction n on free) room (analyseAccepted n on free) analyseRefused (table-numbered n on free) e l in
+      (q ∙ p .0, r ∙ p .1)

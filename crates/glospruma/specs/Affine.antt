@@ -1,0 +1,41 @@
+-- The call `affine`: the smallest affine space of the on points (document 01, "Points and spaces"; free points play no part).
+use mathlib.Core.Bool.{Bool}
+use mathlib.Core.List.{List, [], _∷_, _++_}
+use Prim.Native.Nat.{ℕ}
+use lib.Dec.{eqb}
+use lib.ListN.{length}
+use Rattle.basis.specs.Reduced.{basisOf}
+use Rattle.table.specs.Refusal.{Test, test, affineFault}
+use Rattle.table.specs.Table.{tableTests}
+use Rattle.space.specs.Affine.{directions, leastPoint, projection}
+use Rattle.glospruma.specs.declared.Affine.{Affine}
+use Rattle.table.specs.Decision.{decide, roomAfter, roomTest}
+
+-- The projection of the on points.
+abbrev pub projected : ℕ → List ℕ → List ℕ
+projected n on = projection n (directions on) on
+
+-- Refusals 1, 2, 3, then 6, an empty on set, then 7.
+abbrev pub onTests : ℕ → List ℕ → List Test
+onTests n on = tableTests n on [] ++ (test affineFault (eqb (length on) 0) ∷ [])
+
+abbrev pub affineTests : ℕ → List ℕ → List ℕ → List Test
+affineTests n on room = onTests n on ++ roomTest (projected n on) room
+
+abbrev pub affineAccepted : ℕ → List ℕ → Affine
+affineAccepted n on = record {
+  refusal = 0;
+  least = leastPoint on;
+  dimension = length (directions on);
+  basis = basisOf (directions on);
+  count = length (projected n on);
+}
+
+abbrev pub affineRefused : ℕ → Affine
+affineRefused number = record { refusal = number; least = 0; dimension = 0; basis = basisOf []; count = 0 }
+
+abbrev pub affineAnswer : ℕ → List ℕ → List ℕ → Affine
+affineAnswer n on room = decide (affineTests n on room) (affineAccepted n on) affineRefused
+
+abbrev pub affineRoom : ℕ → List ℕ → List ℕ → List ℕ
+affineRoom n on room = roomAfter (affineTests n on room) (projected n on) room

@@ -1,0 +1,59 @@
+-- The kinds of records, the length of the body that each fixes, and numbers of two bytes (document 01, "The written form").
+-- Read next: crate `stored`, which reads a stored table.
+use mathlib.Core.Bool.{cond}
+use Prim.Native.Nat.{ℕ, _+_, _*_, _/_, _%_}
+use lib.Dec.{eqb}
+use Rattle.records.specs.declared.Kind.{Kind}
+use Rattle.records.specs.declared.Kind.the-variants.{Variables, Product, Factor, End, On, Free, Unknown}
+use Rattle.records.specs.declared.Body.{Body}
+use Rattle.records.specs.declared.Body.the-variants.{Length, Unknown as NoLength}
+
+-- The kind bytes: n, a product begins, a factor, the end with its number, an on point, a free point (document 01, "The written form").
+abbrev pub variablesKind : ℕ
+variablesKind = 0x4E
+
+abbrev pub productKind : ℕ
+productKind = 0x50
+
+abbrev pub factorKind : ℕ
+factorKind = 0x58
+
+abbrev pub endKind : ℕ
+endKind = 0x45
+
+abbrev pub onKind : ℕ
+onKind = 0x4F
+
+abbrev pub freeKind : ℕ
+freeKind = 0x44
+
+-- The kind that a byte stands for; every other byte is an unknown kind.
+unfoldable pub kindOf : ℕ → Kind
+kindOf byte =
+    cond (eqb byte variablesKind) Variables
+    (cond (eqb byte productKind) Product
+    (cond (eqb byte factorKind) Factor
+    (cond (eqb byte endKind) End
+    (cond (eqb byte onKind) On
+    (cond (eqb byte freeKind) Free Unknown)))))
+
+-- The length of the body that a kind fixes.
+abbrev pub bodyOf : Kind → Body
+bodyOf Variables = Length 1
+bodyOf Product = Length 0
+bodyOf Factor = Length 3
+bodyOf End = Length 2
+bodyOf On = Length 2
+bodyOf Free = Length 2
+bodyOf Unknown = NoLength
+
+-- The number that two bytes stand for: wider numbers are low byte first (document 01, "The written form").
+abbrev pub wordOf : ℕ → ℕ → ℕ
+wordOf low high = low + 256 * high
+
+-- The low and the high byte of a number of two bytes.
+abbrev pub lowByte : ℕ → ℕ
+lowByte word = word % 256
+
+abbrev pub highByte : ℕ → ℕ
+highByte word = word / 256

@@ -1,0 +1,58 @@
+-- A stored table that is not refused is a table that is not refused: its points as one rising list give rising lists of on and of free
+-- points with none in both (`stored-accepted`).
+use mathlib.Core.Path.{_≡_, refl}
+use mathlib.Core.Bool.{true, false}
+use mathlib.Core.Logic.{_≢_, inl, inr}
+use mathlib.Core.List.{List}
+use Prim.Native.Nat.{ℕ}
+use Rattle.gf2.specs.Finite.{holds}
+use Rattle.table.specs.Refusal.{Numbered, NoneApplies}
+use Rattle.table.specs.Table.{Accepted, tableFault}
+use Rattle.table.proofs.Refusal.{no-fault, numbered, fault-before}
+use Rattle.table.proofs.Table.{good-count, inside, rising, no-refusal}
+use Rattle.stored.specs.declared.Walk.{Walk}
+use Rattle.stored.specs.Layout.{walked}
+use Rattle.stored.specs.Marks.{marks, storedVariables, storedPoints, storedOn, storedFree}
+use Rattle.stored.specs.Stored.{isFault, LaidOut, layoutTests, layoutOf, storedTests, storedFault}
+use Rattle.stored.proofs.Points.{points-mem, points-rising, points-apart}
+
+pub stored-numbered : (bytes : List ℕ) → Numbered (storedTests bytes)
+unfolding holds
+stored-numbered bytes = numbered (storedTests bytes) refl
+
+-- A fault of the layout is the refusal, and without one the bytes are laid out.
+pub stored-layout : (bytes : List ℕ) → layoutOf (walked bytes) ≢ 0 → storedFault bytes ≡ layoutOf (walked bytes)
+unfolding storedFault layoutOf
+stored-layout bytes nz = fault-before (layoutTests (walked bytes)) _ nz
+
+pub layout-laid : (found : Walk) → layoutOf found ≡ 0 → isFault found ≡ false
+unfolding layoutOf holds
+layout-laid found e = no-fault (layoutTests found) (numbered (layoutTests found) refl) .0 e _ (inl refl)
+
+pub none-stored : (bytes : List ℕ) → storedFault bytes ≡ 0 → NoneApplies (storedTests bytes)
+unfolding storedFault
+none-stored bytes e = no-fault (storedTests bytes) (stored-numbered bytes) .0 e
+
+pub stored-laid : (bytes : List ℕ) → storedFault bytes ≡ 0 → LaidOut bytes
+stored-laid bytes e = none-stored bytes e _ (inl refl)
+
+-- The lists of a stored table that is not refused are those of an accepted table.
+pub stored-accepted : (bytes : List ℕ) → storedFault bytes ≡ 0 → Accepted (storedVariables bytes) (storedOn bytes) (storedFree bytes)
+stored-accepted bytes e =
+    let none = none-stored bytes e in
+    let n = storedVariables bytes in
+    let count = good-count n .0 (none _ (inr (inl refl))) in
+    let below = inside n (storedPoints bytes) (none _ (inr (inr (inl refl)))) in
+    let rises = rising (storedPoints bytes) (none _ (inr (inr (inr (inl refl))))) in
+    record {
+      some = count .0;
+      few = count .1;
+      on-below = λ p k. below p (points-mem true (marks bytes) p k);
+      free-below = λ p k. below p (points-mem false (marks bytes) p k);
+      on-rising = points-rising true (marks bytes) rises;
+      free-rising = points-rising false (marks bytes) rises;
+      apart = points-apart (marks bytes) rises;
+    }
+
+pub stored-table : (bytes : List ℕ) → storedFault bytes ≡ 0 → tableFault (storedVariables bytes) (storedOn bytes) (storedFree bytes) ≡ 0
+stored-table bytes e = no-refusal (storedVariables bytes) (storedOn bytes) (storedFree bytes) (stored-accepted bytes e)

@@ -1,0 +1,86 @@
+-- Laws of specs.Reading: the room is tested last, and a table that is read has no fault and fits.
+use mathlib.Core.Path.{_≡_, refl, sym, _∙_}
+use mathlib.Core.Bool.{Bool, true, false, cond, _||_}
+use mathlib.Core.Logic.{_≢_, inl, inr}
+use mathlib.Core.List.{List, [], _∷_, _++_}
+use Prim.Native.Nat.{ℕ, _≤_}
+use native.Mathlib.Decide.{ℕ-discrete}
+use native.Mathlib.Omega.{arith}
+use lib.Dec.{ltb}
+use lib.ListN.{length}
+use borrow.Author.Tests.{ltb-false}
+use Rattle.gf2.specs.Finite.{holds}
+use Rattle.gf2.proofs.Logic.{or-none}
+use Rattle.table.specs.Refusal.{Test, Numbered, test, firstFault, roomFault}
+use Rattle.table.proofs.Refusal.{no-fault, numbered, fault-append, fault-before}
+use Rattle.stored.specs.declared.TableRead.{TableRead}
+use Rattle.stored.specs.Marks.{storedOn, storedFree}
+use Rattle.stored.specs.Stored.{storedTests, storedFault}
+use Rattle.stored.specs.Reading.{readTests, readFault, refusedRead, acceptedRead, readAnswer, onAfter, freeAfter}
+use Rattle.table.specs.Decision.{front}
+use Rattle.table.proofs.Decide.{decide-accepted, decide-refused}
+use Rattle.stored.proofs.Accepting.{stored-numbered}
+
+pub read-numbered : (bytes : List ℕ) (on free : ℕ) → Numbered (readTests bytes on free)
+unfolding holds
+read-numbered bytes on free = numbered (readTests bytes on free) refl
+
+-- A list is longer than its room.
+abbrev pub short : List ℕ → ℕ → ℕ → Bool
+short bytes on free = ltb on (length (storedOn bytes)) || ltb free (length (storedFree bytes))
+
+module _ (bytes : List ℕ) (on free : ℕ) where
+  pub stored-first : storedFault bytes ≢ 0 → readFault bytes on free ≡ storedFault bytes
+  unfolding readFault storedFault
+  stored-first nz = fault-before (storedTests bytes) _ nz
+
+  pub then-room : storedFault bytes ≡ 0 → readFault bytes on free ≡ cond (short bytes on free) roomFault 0
+  unfolding readFault storedFault firstFault
+  then-room e = fault-append (storedTests bytes) (test roomFault (short bytes on free) ∷ []) (stored-numbered bytes) e
+
+  -- A table that is read has no fault, and both lists fit.
+  pub read-fits : readFault bytes on free ≡ 0 → (storedFault bytes ≡ 0) × (length (storedOn bytes) ≤ on) × (length (storedFree bytes) ≤ free)
+  read-fits e = go (ℕ-discrete (storedFault bytes) 0)
+    where
+      roomy : (t : Bool) → cond t roomFault 0 ≡ 0 → t ≡ false
+      roomy true q = absurd (omega arith)
+      roomy false q = refl
+
+      go : Dec (storedFault bytes ≡ 0) → (storedFault bytes ≡ 0) × (length (storedOn bytes) ≤ on) × (length (storedFree bytes) ≤ free)
+      go (no nz) = absurd (nz (sym (stored-first nz) ∙ e))
+      go (yes z) =
+          let both = or-none (ltb on (length (storedOn bytes))) (ltb free (length (storedFree bytes))) (roomy (short bytes on free) (sym (then-room z) ∙ e)) in
+          (z, ltb-false on (length (storedOn bytes)) (both .0), ltb-false free (length (storedFree bytes)) (both .1))
+
+-- ---- the answer and the rooms by the one decision
+
+module _ (bytes on free : List ℕ) where
+  abbrev tests : List Test
+  tests = readTests bytes (length on) (length free)
+
+  abbrev fault : ℕ
+  fault = readFault bytes (length on) (length free)
+
+  pub refused-read : fault ≢ 0 → readAnswer bytes (length on) (length free) ≡ refusedRead fault
+  unfolding readAnswer readFault
+  refused-read nz = decide-refused tests (acceptedRead bytes) refusedRead fault nz refl
+
+  pub refused-on : fault ≢ 0 → onAfter bytes on free ≡ on
+  unfolding onAfter readFault
+  refused-on nz = decide-refused tests (front (storedOn bytes) on) (λ k. on) fault nz refl
+
+  pub refused-free : fault ≢ 0 → freeAfter bytes on free ≡ free
+  unfolding freeAfter readFault
+  refused-free nz = decide-refused tests (front (storedFree bytes) free) (λ k. free) fault nz refl
+
+  pub accepted-read : fault ≡ 0 → readAnswer bytes (length on) (length free) ≡ acceptedRead bytes
+  unfolding readAnswer readFault
+  accepted-read e = decide-accepted tests (acceptedRead bytes) refusedRead e
+
+  pub accepted-on : fault ≡ 0 → onAfter bytes on free ≡ front (storedOn bytes) on
+  unfolding onAfter readFault
+  accepted-on e = decide-accepted tests (front (storedOn bytes) on) (λ k. on) e
+
+  pub accepted-free : fault ≡ 0 → freeAfter bytes on free ≡ front (storedFree bytes) free
+  unfolding freeAfter readFault
+  accepted-free e = decide-accepted tests (front (storedFree bytes) free) (λ k. free) e

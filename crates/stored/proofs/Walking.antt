@@ -1,0 +1,108 @@
+-- Laws of specs.Layout: what a whole record says of the bytes that are left.
+use mathlib.Core.Path.{_≡_, refl, sym, ap, _∙_, subst}
+use mathlib.Core.Bool.{Bool, true, false, cond}
+use mathlib.Core.List.{List, [], _∷_}
+use Prim.Native.Nat.{ℕ, zero, suc, _≤_, _<_, _+_}
+use native.Mathlib.Nat.{le-of-suc-le-suc, not-suc-le-zero}
+use native.Mathlib.Omega.{arith}
+use lib.Dec.{leb, eqb}
+use borrow.Author.Tests.{leb-true}
+use native.Mathlib.Numerals.{add-one}
+use lib.ListN.{length, drop, getD}
+use lib.Seq.{drop-cons, drop-drop}
+use Rattle.records.specs.declared.Kind.{Kind}
+use Rattle.records.specs.declared.Kind.the-variants.{Variables, Product, Factor, End, On, Free, Unknown}
+use Rattle.records.specs.declared.Body.{Body}
+use Rattle.records.specs.declared.Body.the-variants.{Length, Unknown as NoLength}
+use Rattle.records.specs.Kinds.{kindOf, bodyOf}
+use Rattle.stored.specs.declared.Walk.{Walk}
+use Rattle.stored.specs.declared.Walk.the-variants.{Laid, WrongKind, Missing, WrongCount, After}
+use Rattle.stored.specs.declared.Step.{Step}
+use Rattle.stored.specs.declared.Step.the-variants.{Whole, Stop}
+use Rattle.stored.specs.Layout.{bodyStep, endStep, firstStep, laterStep, recordStep, walkFrom, walked, longestTable}
+
+-- A whole record is not the end of the walk.
+not-whole : {A : Type 0} (s : Step) {w : Walk} {l : ℕ} → s ≡ Stop w → s ≡ Whole l → A
+not-whole s p q = let z : _≡_ {A = ℕ} 0 1 = cc in absurd (omega arith)
+
+-- A body that is whole has the length that its kind fixes, and that many bytes are there.
+pub body-whole : (b : Body) (place : ℕ) (rest : List ℕ) (l : ℕ) → bodyStep b place rest ≡ Whole l → (b ≡ Length l) × (l ≤ length rest)
+body-whole NoLength place rest l e = not-whole (Stop (WrongKind place)) refl e
+body-whole (Length m) place rest l e = go (leb m (length rest)) refl e
+  where
+    go : (t : Bool) → leb m (length rest) ≡ t → cond t (Whole m) (Stop (Missing (place + 1 + length rest))) ≡ Whole l → (Length m ≡ Length l) × (l ≤ length rest)
+    go true p q = let same : m ≡ l = cc in (ap Length same, subst (λ (k : ℕ). k ≤ length rest) same (leb-true m (length rest) p))
+    go false p q = not-whole (Stop (Missing (place + 1 + length rest))) refl q
+
+-- A later record that is whole leaves its body behind.
+later-whole : (k : Kind) (count place : ℕ) (rest : List ℕ) (l : ℕ) → laterStep k count place rest ≡ Whole l → l ≤ length rest
+later-whole Variables count place rest l e = not-whole (Stop (WrongKind place)) refl e
+later-whole Product count place rest l e = not-whole (Stop (WrongKind place)) refl e
+later-whole Factor count place rest l e = not-whole (Stop (WrongKind place)) refl e
+later-whole On count place rest l e = body-whole (bodyOf On) place rest l e .1
+later-whole Free count place rest l e = body-whole (bodyOf Free) place rest l e .1
+later-whole Unknown count place rest l e = not-whole (Stop (WrongKind place)) refl e
+later-whole End count place rest l e = ended (bodyStep (bodyOf End) place rest) e
+  where
+    ended : (s : Step) → endStep s count place rest ≡ Whole l → l ≤ length rest
+    ended (Whole m) q = not-whole (endStep (Whole m) count place rest) refl q
+    ended (Stop w) q = not-whole (Stop w) refl q
+
+pub record-whole : (byte count place : ℕ) (rest : List ℕ) (l : ℕ) → recordStep byte count place rest ≡ Whole l → l ≤ length rest
+record-whole byte count place rest l = go (eqb place longestTable)
+  where
+    go : (t : Bool) → cond t (Stop (After place)) (laterStep (kindOf byte) count place rest) ≡ Whole l → l ≤ length rest
+    go true e = not-whole (Stop (After place)) refl e
+    go false e = later-whole (kindOf byte) count place rest l e
+
+-- A body that is there is passed.
+pub pass : (skip count place : ℕ) (rest : List ℕ) → skip ≤ length rest → walkFrom skip count place rest ≡ walkFrom 0 count (place + skip) (drop skip rest)
+unfolding walkFrom
+pass zero count place rest h = let e : place ≡ place + 0 = omega arith in ap (λ (p : ℕ). walkFrom 0 count p rest) e
+pass (suc k) count place [] h = absurd (not-suc-le-zero h)
+pass (suc k) count place (b ∷ rest) h =
+    let e : place + 1 + k ≡ place + suc k = omega arith in
+    pass k count (place + 1) rest (le-of-suc-le-suc h) ∙ ap (λ (p : ℕ). walkFrom 0 count p (drop k rest)) e
+
+-- The walk at a place of the bytes where a record begins: it ends there, or goes on after the record.
+module _ (s : List ℕ) (count place : ℕ) (h : place < length s) where
+  opened : drop place s ≡ getD s place 0 ∷ drop (place + 1) s
+  opened = rw (add-one, drop-cons s place 0)
+
+  pub walk-ends : (w : Walk) → recordStep (getD s place 0) count place (drop (place + 1) s) ≡ Stop w → walkFrom 0 count place (drop place s) ≡ w
+  unfolding walkFrom
+  walk-ends w e = rw (opened, e)
+
+  pub walk-goes : (l : ℕ) → recordStep (getD s place 0) count place (drop (place + 1) s) ≡ Whole l
+      → walkFrom 0 count place (drop place s) ≡ walkFrom 0 (count + 1) (place + 1 + l) (drop (place + 1 + l) s)
+  unfolding walkFrom
+  walk-goes l e =
+      let there = record-whole (getD s place 0) count place (drop (place + 1) s) l e in
+      let passed = pass l (count + 1) (place + 1) (drop (place + 1) s) there ∙ ap (walkFrom 0 (count + 1) (place + 1 + l)) (drop-drop l (place + 1) s) in
+      rw (opened, e) passed
+
+-- The walk over a whole input: it ends at the first record, or goes on after it.
+pub walk-none : (s : List ℕ) → length s ≡ 0 → walked s ≡ Missing 0
+unfolding walked
+walk-none [] h = refl
+walk-none (b ∷ rest) h = absurd (omega arith)
+
+pub first-whole : (k : Kind) (rest : List ℕ) (l : ℕ) → firstStep k rest ≡ Whole l → l ≤ length rest
+first-whole Variables rest l e = body-whole (bodyOf Variables) 0 rest l e .1
+first-whole Product rest l e = not-whole (Stop (WrongKind 0)) refl e
+first-whole Factor rest l e = not-whole (Stop (WrongKind 0)) refl e
+first-whole End rest l e = not-whole (Stop (WrongKind 0)) refl e
+first-whole On rest l e = not-whole (Stop (WrongKind 0)) refl e
+first-whole Free rest l e = not-whole (Stop (WrongKind 0)) refl e
+first-whole Unknown rest l e = not-whole (Stop (WrongKind 0)) refl e
+
+pub first-ends : (s : List ℕ) (w : Walk) → 0 < length s → firstStep (kindOf (getD s 0 0)) (drop 1 s) ≡ Stop w → walked s ≡ w
+unfolding walked
+first-ends [] w h e = absurd (not-suc-le-zero h)
+first-ends (b ∷ rest) w h e = rw e
+
+pub first-goes : (s : List ℕ) (l : ℕ) → 0 < length s → firstStep (kindOf (getD s 0 0)) (drop 1 s) ≡ Whole l → walked s ≡ walkFrom 0 0 (1 + l) (drop (1 + l) s)
+unfolding walked
+first-goes [] l h e = absurd (not-suc-le-zero h)
+first-goes (b ∷ rest) l h e =
+    rw e (pass l 0 1 rest (first-whole (kindOf b) rest l e) ∙ ap (walkFrom 0 0 (1 + l)) (drop-drop l 1 (b ∷ rest)))

@@ -1,0 +1,93 @@
+-- `stored::read_table` meets its contract: the one decision says what is returned and what stands in both rooms. Assumes nothing.
+use mathlib.Core.Path.{_≡_, refl, sym, ap, _∙_}
+use mathlib.Core.Logic.{_≢_}
+use Prim.Native.Nat.{_<_}
+use native.Mathlib.Omega.{arith}
+use borrow.Author.Needs.{needs}
+use lib.ListN.{length}
+use Rattle.stored.specs.Reading.{readFault, refusedRead, acceptedRead}
+use Rattle.stored.proofs.Laying.{table-length}
+use Rattle.stored.proofs.Accepting.{stored-laid}
+use Rattle.stored.proofs.Rooms.{read-fits, refused-read, refused-on, refused-free, accepted-read, accepted-on, accepted-free}
+use Rattle.stored.proofs.read_table.Statement.{statement}
+use Rattle.stored.proofs.read_table.Tie as tie
+
+read-fault-requires : tie.Need-read-fault-requires
+read-fault-requires c κs = search needs
+
+returns : tie.Need-returns
+returns c =
+    let f = c .before in
+    let a = f .before .before .before .before .args in
+    let bytes = a .bytes .now in
+    let on = a .on .now in
+    let free = a .free .now in
+    let nz : readFault bytes (length on) (length free) ≢ 0 = λ z. c .if1 .taken (f .read-fault .ensures ∙ z) in
+    (ap refusedRead (f .read-fault .ensures) ∙ sym (refused-read bytes on free nz), (sym (refused-on bytes on free nz), sym (refused-free bytes on free nz)))
+
+-- Past the test nothing is refused.
+accepted : (c : tie.Else1)
+    → readFault
+    (c .before .before .before .before .before .args .bytes .now)
+    (length (c .before .before .before .before .before .args .on .now))
+    (length (c .before .before .before .before .before .args .free .now))
+    ≡ 0
+accepted c = sym (c .before .read-fault .ensures) ∙ c .if1 .left
+
+write-points-requires : tie.Need-write-points-requires
+write-points-requires c κs =
+    let a = c .before .before .before .before .before .before .args in
+    let h = read-fits (a .bytes .now) (length (a .on .now)) (length (a .free .now)) (accepted (c .before)) in
+    (stored-laid (a .bytes .now) (h .0), h .1)
+
+write-points-requires-2 : tie.Need-write-points-requires-2
+write-points-requires-2 c κs =
+    let e = c .before .before .before .before .before in
+    let a = e .before .before .before .before .before .args in
+    let h = read-fits (a .bytes .now) (length (a .on .now)) (length (a .free .now)) (accepted e) in
+    (stored-laid (a .bytes .now) (h .0), h .2)
+
+shared-slice-read-t15 : tie.Need-shared-slice-read-t15
+shared-slice-read-t15 c =
+    let e = c .before .before .before .before .before .before .before .before .before in
+    let a = e .before .before .before .before .before .args in
+    let h = read-fits (a .bytes .now) (length (a .on .now)) (length (a .free .now)) (accepted e) in
+    let there : 1 < length (a .bytes .now) = omega (arith, table-length (a .bytes .now) (stored-laid (a .bytes .now) (h .0))) in
+    there
+
+cast-t7 : tie.Need-cast-t7
+cast-t7 c = omega (arith, c .shared-slice-known2 .given 1)
+
+same-length : tie.Need-same-length
+same-length c = search needs
+
+same-length-2 : tie.Need-same-length-2
+same-length-2 c = search needs
+
+returns-2 : tie.Need-returns-2
+returns-2 c =
+    let second = c .before .before .before in
+    let first = second .before .before .before .before in
+    let e = first .before .before in
+    let a = e .before .before .before .before .before .args in
+    let bytes = a .bytes .now in
+    let on = a .on .now in
+    let free = a .free .now in
+    let z = accepted e in (
+      (cc (first .write-points .ensures .0, second .write-points2 .ensures .0, accepted-read bytes on free z)),
+      (first .write-points .ensures .1 ∙ sym (accepted-on bytes on free z), second .write-points2 .ensures .1 ∙ sym (accepted-free bytes on free z)),
+    )
+
+pub read-table-spec : {M : Type 1} → statement M
+read-table-spec =
+    tie.close
+    (tie.spec
+    read-fault-requires
+    returns
+    write-points-requires
+    write-points-requires-2
+    shared-slice-read-t15
+    cast-t7
+    same-length
+    same-length-2
+    returns-2)

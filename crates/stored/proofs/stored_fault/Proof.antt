@@ -1,0 +1,109 @@
+-- `stored::stored_fault` meets its contract: at each return the tests up to it are known, and the list of tests computes. Assumes nothing.
+use mathlib.Core.Path.{_≡_, sym, ap, _∙_}
+use mathlib.Core.Bool.{Bool}
+use Prim.Native.Nat.{_≤_}
+use native.Mathlib.Omega.{arith}
+use borrow.Author.Needs.{needs}
+use Rattle.table.specs.Refusal.{firstFault}
+use Rattle.table.proofs.Table.{good-count}
+use Rattle.stored.specs.Layout.{walked}
+use Rattle.stored.specs.Stored.{LaidOut, layoutOf, storedFault}
+use Rattle.stored.proofs.Laying.{table-length}
+use Rattle.stored.proofs.Accepting.{stored-layout, layout-laid}
+use Rattle.stored.proofs.stored_fault.Statement.{statement}
+use Rattle.stored.proofs.stored_fault.Tie as tie
+
+-- What a call was found to return is so of the test that its contract names.
+known : {r t v : Bool} → r ≡ t → r ≡ v → t ≡ v
+known p q = sym p ∙ q
+
+walk-table-requires : tie.Need-walk-table-requires
+walk-table-requires c κs = search needs
+
+layout-fault-requires : tie.Need-layout-fault-requires
+layout-fault-requires c κs = search needs
+
+returns : tie.Need-returns
+returns c =
+    let l = c .before in
+    let s = l .before .before .before .args .bytes .now in
+    let e = l .layout-fault .ensures ∙ ap layoutOf (l .before .walk-table .ensures) in
+    e ∙ sym (stored-layout s (λ z. c .if1 .taken (e ∙ z)))
+
+laid : (c : tie.Else1) → LaidOut (c .before .before .before .before .args .bytes .now)
+laid c =
+    let l = c .before in
+    layout-laid (walked (l .before .before .before .args .bytes .now)) (sym (l .layout-fault .ensures ∙ ap layoutOf (l .before .walk-table .ensures)) ∙ c .if1 .left)
+
+shared-slice-read-n : tie.Need-shared-slice-read-n
+shared-slice-read-n c = omega (arith, table-length (c .before .before .before .before .before .args .bytes .now) (laid (c .before)))
+
+cast-n : tie.Need-cast-n
+cast-n c = omega (arith, c .shared-slice-known2 .given 1)
+
+bad-count-requires : tie.Need-bad-count-requires
+bad-count-requires c κs = search needs
+
+returns-2 : tie.Need-returns-2
+unfolding storedFault firstFault
+returns-2 c =
+    let b = c .before in
+    rw (laid (b .before .before), known (b .bad-count .ensures) (c .if2 .taken))
+
+points-outside-requires : tie.Need-points-outside-requires
+points-outside-requires c κs =
+    let b = c .before in
+    (laid (b .before .before), good-count _ .0 (known (b .bad-count .ensures) (c .if2 .left)) .1)
+
+returns-3 : tie.Need-returns-3
+unfolding storedFault firstFault
+returns-3 c =
+    let o = c .before in
+    let b = o .before .before in
+    rw (laid (b .before .before), known (b .bad-count .ensures) (o .before .if2 .left), known (o .points-outside .ensures) (c .if3 .taken))
+
+points-unordered-requires : tie.Need-points-unordered-requires
+points-unordered-requires c κs = laid (c .before .before .before .before .before)
+
+returns-4 : tie.Need-returns-4
+unfolding storedFault firstFault
+returns-4 c =
+    let u = c .before in
+    let o = u .before .before in
+    let b = o .before .before in
+    rw (
+      laid (b .before .before),
+      known (b .bad-count .ensures) (o .before .if2 .left),
+      known (o .points-outside .ensures) (u .before .if3 .left),
+      known (u .points-unordered .ensures) (c .if4 .taken),
+    )
+
+returns-5 : tie.Need-returns-5
+unfolding storedFault firstFault
+returns-5 c =
+    let u = c .before in
+    let o = u .before .before in
+    let b = o .before .before in
+    rw (
+      laid (b .before .before),
+      known (b .bad-count .ensures) (o .before .if2 .left),
+      known (o .points-outside .ensures) (u .before .if3 .left),
+      known (u .points-unordered .ensures) (c .if4 .left),
+    )
+
+pub stored-fault-spec : {M : Type 1} → statement M
+stored-fault-spec =
+    tie.close
+    (tie.spec
+    walk-table-requires
+    layout-fault-requires
+    returns
+    shared-slice-read-n
+    cast-n
+    bad-count-requires
+    returns-2
+    points-outside-requires
+    returns-3
+    points-unordered-requires
+    returns-4
+    returns-5)

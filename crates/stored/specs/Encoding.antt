@@ -1,0 +1,43 @@
+-- The bytes of a stored table (document 01, "The written form"). That a list of bytes is laid out as a table exactly if it is one of these
+-- is `laid-exactly`.
+-- Read next: Stored.
+use mathlib.Core.Path.{_≡_}
+use mathlib.Core.Bool.{Bool, true, false}
+use mathlib.Core.List.{List, [], _∷_, _++_}
+use Prim.Native.Nat.{ℕ, _≤_, _<_}
+use lib.ListN.{length}
+use Rattle.gf2.specs.Finite.{Mem}
+use Rattle.records.specs.Kinds.{variablesKind, endKind, onKind, freeKind, lowByte, highByte}
+use Rattle.table.specs.Flags.{maxPoints}
+use Rattle.stored.specs.Marks.{Mark}
+
+-- A list of bytes.
+abbrev pub Bytes : List ℕ → Type 0
+Bytes bytes = (byte : ℕ) → Mem byte bytes → byte < 256
+
+-- The kind byte of a mark.
+abbrev pub markKind : Bool → ℕ
+markKind true = onKind
+markKind false = freeKind
+
+-- The records of the marks: kind, then the point, low byte first.
+unfoldable pub encodeMarks : List Mark → List ℕ
+encodeMarks [] = []
+encodeMarks (m ∷ rest) = markKind (m .isOn) ∷ lowByte (m .point) ∷ highByte (m .point) ∷ encodeMarks rest
+
+-- The end record with the number of points.
+abbrev pub encodeEnd : ℕ → List ℕ
+encodeEnd count = endKind ∷ lowByte count ∷ highByte count ∷ []
+
+-- A stored table: 4E and n, a record for each mark, 45 and their number.
+unfoldable pub encodeTable : ℕ → List Mark → List ℕ
+encodeTable n ms = variablesKind ∷ n ∷ (encodeMarks ms ++ encodeEnd (length ms))
+
+-- The bytes are those of a stored table: n in one byte, each point in two, and no more records than points of the most variables.
+pub record Encoded (bytes : List ℕ) : Type 0 where
+  pub variables : ℕ
+  pub listed : List Mark
+  pub one-byte : variables < 256
+  pub two-bytes : (m : Mark) → Mem m listed → m .point < 65536
+  pub few : length listed ≤ maxPoints
+  pub same : bytes ≡ encodeTable variables listed

@@ -1,0 +1,78 @@
+-- How the bytes of a stored table are laid out: a walk from the left that reports the first fault that it meets, with its byte place
+-- (document 01, "The written form"; the faults and their places are those of document 02, No. 3). Read next: Marks.
+use mathlib.Core.Bool.{cond}
+use mathlib.Core.List.{List, [], _∷_}
+use Prim.Native.Nat.{ℕ, zero, suc, _+_, _*_}
+use lib.Dec.{eqb, leb}
+use lib.ListN.{length, getD, drop}
+use Rattle.records.specs.declared.Kind.{Kind}
+use Rattle.records.specs.declared.Kind.the-variants.{Variables, Product, Factor, End, On, Free, Unknown}
+use Rattle.records.specs.declared.Body.{Body}
+use Rattle.records.specs.declared.Body.the-variants.{Length, Unknown as NoLength}
+use Rattle.records.specs.Kinds.{kindOf, bodyOf, wordOf}
+use Rattle.table.specs.Flags.{maxPoints}
+use Rattle.stored.specs.declared.Walk.{Walk}
+use Rattle.stored.specs.declared.Walk.the-variants.{Laid, WrongKind, Missing, WrongCount, After}
+use Rattle.stored.specs.declared.Step.{Step}
+use Rattle.stored.specs.declared.Step.the-variants.{Whole, Stop}
+
+-- The bytes of the longest stored table: 4E and n, a record of 3 bytes for each point, 45 and their number (document 01, "The written form").
+abbrev pub longestTable : ℕ
+longestTable = 2 + 3 * maxPoints + 3
+
+-- The body of the record whose kind stands at the place, before the bytes that follow that kind: it is judged only when all of it is there,
+-- and a cut one is missing bytes at the length of the input (document 02, No. 3).
+abbrev pub bodyStep : Body → ℕ → List ℕ → Step
+bodyStep (Length l) place rest = cond (leb l (length rest)) (Whole l) (Stop (Missing (place + 1 + length rest)))
+bodyStep NoLength place rest = Stop (WrongKind place)
+
+-- After the end record nothing may stand.
+abbrev pub afterEnd : ℕ → ℕ → List ℕ → Walk
+afterEnd count place [] = Laid count
+afterEnd count place (byte ∷ rest) = After place
+
+-- The body of the end record, once all of it is there, is the number of records before it; then nothing may follow.
+abbrev pub endStep : Step → ℕ → ℕ → List ℕ → Step
+endStep (Stop fault) count place rest = Stop fault
+endStep (Whole l) count place rest =
+    Stop (cond (eqb (wordOf (getD rest 0 0) (getD rest 1 0)) count) (afterEnd count (place + 1 + l) (drop l rest)) (WrongCount (place + 1)))
+
+-- The first record gives n.
+abbrev pub firstStep : Kind → List ℕ → Step
+firstStep Variables rest = bodyStep (bodyOf Variables) 0 rest
+firstStep Product rest = Stop (WrongKind 0)
+firstStep Factor rest = Stop (WrongKind 0)
+firstStep End rest = Stop (WrongKind 0)
+firstStep On rest = Stop (WrongKind 0)
+firstStep Free rest = Stop (WrongKind 0)
+firstStep Unknown rest = Stop (WrongKind 0)
+
+-- A later record is an on point, a free point or the end; any other kind stands wrong.
+abbrev pub laterStep : Kind → ℕ → ℕ → List ℕ → Step
+laterStep On count place rest = bodyStep (bodyOf On) place rest
+laterStep Free count place rest = bodyStep (bodyOf Free) place rest
+laterStep End count place rest = endStep (bodyStep (bodyOf End) place rest) count place rest
+laterStep Variables count place rest = Stop (WrongKind place)
+laterStep Product count place rest = Stop (WrongKind place)
+laterStep Factor count place rest = Stop (WrongKind place)
+laterStep Unknown count place rest = Stop (WrongKind place)
+
+-- A byte at the place after the longest table is a byte after the end, whatever it is (document 02, No. 3).
+abbrev pub recordStep : ℕ → ℕ → ℕ → List ℕ → Step
+recordStep byte count place rest = cond (eqb place longestTable) (Stop (After place)) (laterStep (kindOf byte) count place rest)
+
+-- A whole record is passed, and the walk goes on; otherwise it ends.
+abbrev pub goOn : Step → (ℕ → Walk) → Walk
+goOn (Whole l) next = next l
+goOn (Stop end) next = end
+
+-- The walk over the bytes from a place on, with the number of records behind it, once the given number of bytes of a body is passed.
+unfoldable pub walkFrom : ℕ → ℕ → ℕ → List ℕ → Walk
+walkFrom skip count place [] = Missing place
+walkFrom zero count place (byte ∷ rest) = goOn (recordStep byte count place rest) (λ l. walkFrom l (count + 1) (place + 1) rest)
+walkFrom (suc skip) count place (byte ∷ rest) = walkFrom skip count (place + 1) rest
+
+-- The walk over a whole input: the first record, the records of points, the end.
+unfoldable pub walked : List ℕ → Walk
+walked [] = Missing 0
+walked (byte ∷ rest) = goOn (firstStep (kindOf byte) rest) (λ l. walkFrom l 0 1 rest)

@@ -1,0 +1,39 @@
+-- The answer of reading a stored table into two lent rooms, and what stands in the rooms afterwards (document 01, "Refusal numbers").
+use mathlib.Core.Bool.{_||_}
+use mathlib.Core.List.{List, [], _∷_, _++_}
+use Prim.Native.Nat.{ℕ}
+use lib.Dec.{ltb}
+use lib.ListN.{length}
+use Rattle.table.specs.Refusal.{Test, test, firstFault, roomFault}
+use Rattle.table.specs.Decision.{decide, roomAfter}
+use Rattle.stored.specs.declared.TableRead.{TableRead}
+use Rattle.stored.specs.Marks.{storedVariables, storedOn, storedFree}
+use Rattle.stored.specs.Stored.{storedTests}
+
+-- The tests of reading, for rooms of the given lengths: those of the stored table, then that a list is longer than its room.
+abbrev pub readTests : List ℕ → ℕ → ℕ → List Test
+readTests bytes onRoom freeRoom =
+    storedTests bytes ++ (test roomFault (ltb onRoom (length (storedOn bytes)) || ltb freeRoom (length (storedFree bytes))) ∷ [])
+
+-- The refusal of reading, or 0: the one decision behind the answer and both rooms.
+unfoldable pub readFault : List ℕ → ℕ → ℕ → ℕ
+readFault bytes onRoom freeRoom = firstFault (readTests bytes onRoom freeRoom)
+
+-- A refusal returns its number with all other numbers 0.
+abbrev pub refusedRead : ℕ → TableRead
+refusedRead fault = record { refusal = fault; variables = 0; «on_count» = 0; «free_count» = 0 }
+
+abbrev pub acceptedRead : List ℕ → TableRead
+acceptedRead bytes =
+    record { refusal = 0; variables = storedVariables bytes; «on_count» = length (storedOn bytes); «free_count» = length (storedFree bytes) }
+
+-- The numbers returned.
+unfoldable pub readAnswer : List ℕ → ℕ → ℕ → TableRead
+readAnswer bytes onRoom freeRoom = decide (readTests bytes onRoom freeRoom) (acceptedRead bytes) refusedRead
+
+-- The rooms after the call: the points at their front and the rest as lent, or all as lent where the call is refused.
+unfoldable pub onAfter : List ℕ → List ℕ → List ℕ → List ℕ
+onAfter bytes onRoom freeRoom = roomAfter (readTests bytes (length onRoom) (length freeRoom)) (storedOn bytes) onRoom
+
+unfoldable pub freeAfter : List ℕ → List ℕ → List ℕ → List ℕ
+freeAfter bytes onRoom freeRoom = roomAfter (readTests bytes (length onRoom) (length freeRoom)) (storedFree bytes) freeRoom

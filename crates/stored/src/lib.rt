@@ -1,0 +1,328 @@
+// The stored table (document 01, "The written form"): its bytes are walked from the left, tested, and read into lists of on and free points.
+// Read next: specs/Layout.antt.
+ghost use mathlib.Core.Path.{_≡_};
+ghost use mathlib.Core.Bool.{Bool·beq};
+ghost use mathlib.Core.List.{_++_};
+ghost use Prim.Native.Nat.{_+_, _≤_, _<_};
+ghost use lib.ListN.{length, getD, drop};
+ghost use Rattle.records.specs.Kinds.{bodyOf, kindOf};
+ghost use Rattle.gf2.specs.Limits.{maxVariables};
+ghost use Rattle.table.specs.Table.{outside, unordered};
+ghost use Rattle.stored.specs.Marks.{noMark, marks, pointsOf, storedPoints};
+ghost use Rattle.stored.specs.Reading.{readFault, readAnswer, onAfter, freeAfter};
+ghost use Rattle.stored.specs.Stored.{LaidOut, layoutOf, storedFault};
+ghost use Rattle.stored.specs.Layout.{bodyStep, endStep, firstStep, recordStep, walkFrom, walked};
+use records::Body;
+use records::Kind;
+
+// The bytes of the longest stored table, as `longestTable` in specs/.
+pub const LONGEST_TABLE: usize = 2 + 3 * table::MAX_POINTS + 3;
+
+// Where the first record of a point begins, and how long such a record is, its kind included.
+const FIRST_POINT: usize = 2;
+
+const POINT_LENGTH: usize = 3;
+
+// What the walk over the bytes finds: a table with a number of records, or the first fault with its place (document 02, No. 3).
+pub enum Walk {
+    Laid(usize),
+    WrongKind(usize),
+    Missing(usize),
+    WrongCount(usize),
+    After(usize),
+}
+
+// What the walk finds at one record: a whole one, with the length of its body, or how the walk ends.
+pub enum Step {
+    Whole(usize),
+    Stop(Walk),
+}
+
+// The body of the record at the place.
+fn body_step(bytes: &[u8], place: usize, kind: Kind) -> Step
+    requires { ⌜ place < length (now bytes) ⌝ }
+    ensures { λ r. ⌜ r ≡ bodyStep (bodyOf kind) place (drop (place + 1) (now (bytes .entry))) ⌝ }
+{
+    let Body::Length(length) = records::body_of(kind) else {
+        return Step::Stop(Walk::WrongKind(place));
+    };
+    if length < bytes.len() - place {
+        Step::Whole(length)
+    } else {
+        Step::Stop(Walk::Missing(bytes.len()))
+    }
+}
+
+// The end record at the place: the number of records before it, and nothing after.
+fn end_step(bytes: &[u8], count: usize, place: usize) -> Step
+    requires { ⌜ place < length (now bytes) ⌝ }
+    ensures { λ r.
+        ⌜
+        r
+        ≡ endStep
+        (bodyStep (bodyOf Kind.End) place (drop (place + 1) (now (bytes .entry))))
+        count
+        place
+        (drop (place + 1) (now (bytes .entry)))
+        ⌝ }
+{
+    let body = body_step(bytes, place, Kind::End);
+    let Step::Whole(length) = body else {
+        return body;
+    };
+    let next = place + 1 + length;
+    if records::word(bytes[place + 1], bytes[place + 2]) as usize != count {
+        Step::Stop(Walk::WrongCount(place + 1))
+    } else if next < bytes.len() {
+        Step::Stop(Walk::After(next))
+    } else {
+        Step::Stop(Walk::Laid(count))
+    }
+}
+
+// The first record of a table.
+fn first_step(bytes: &[u8]) -> Step
+    requires { ⌜ 0 < length (now bytes) ⌝ }
+    ensures { λ r. ⌜ r ≡ firstStep (kindOf (getD (now (bytes .entry)) 0 0)) (drop 1 (now (bytes .entry))) ⌝ }
+{
+    let kind = records::kind_of(bytes[0]);
+    match kind {
+        Kind::Variables => body_step(bytes, 0, kind),
+        _ => Step::Stop(Walk::WrongKind(0)),
+    }
+}
+
+// A later record, at the place, with a number of records before it.
+fn record_step(bytes: &[u8], count: usize, place: usize) -> Step
+    requires { ⌜ place < length (now bytes) ⌝ }
+    ensures { λ r. ⌜ r ≡ recordStep (getD (now (bytes .entry)) place 0) count place (drop (place + 1) (now (bytes .entry))) ⌝ }
+{
+    if place == LONGEST_TABLE {
+        return Step::Stop(Walk::After(place));
+    }
+    let kind = records::kind_of(bytes[place]);
+    match kind {
+        Kind::On => body_step(bytes, place, kind),
+        Kind::Free => body_step(bytes, place, kind),
+        Kind::End => end_step(bytes, count, place),
+        _ => Step::Stop(Walk::WrongKind(place)),
+    }
+}
+
+// The walk over the records after the first, from the place on.
+fn walk_records(bytes: &[u8], start: usize) -> Walk
+    requires { ⌜ start ≤ length (now bytes) ⌝ }
+    ensures { λ r. ⌜ r ≡ walkFrom 0 0 start (drop start (now (bytes .entry))) ⌝ }
+{
+    let mut count = 0;
+    let mut place = start;
+    while place < bytes.len() {
+        match record_step(bytes, count, place) {
+            Step::Stop(end) => {
+                return end;
+            }
+            Step::Whole(length) => {
+                place = place + 1 + length;
+                count += 1;
+            }
+        }
+    }
+    Walk::Missing(place)
+}
+
+// The walk over the bytes of a table.
+pub fn walk_table(bytes: &[u8]) -> Walk
+    ensures { λ r. ⌜ r ≡ walked (now (bytes .entry)) ⌝ }
+{
+    if bytes.len() == 0 {
+        return Walk::Missing(0);
+    }
+    match first_step(bytes) {
+        Step::Stop(end) => end,
+        Step::Whole(length) => walk_records(bytes, 1 + length),
+    }
+}
+
+// The refusal number of what the walk found, or 0.
+fn layout_fault(found: Walk) -> u8
+    ensures { λ r. ⌜ r ≡ layoutOf found ⌝ }
+{
+    match found {
+        Walk::Laid(_) => 0,
+        Walk::WrongKind(_) => table::LAYOUT_FAULT,
+        Walk::Missing(_) => table::LAYOUT_FAULT,
+        Walk::WrongCount(_) => table::LAYOUT_FAULT,
+        Walk::After(_) => table::LAYOUT_FAULT,
+    }
+}
+
+// The number of records of points: the first record, theirs and the end record take up all the bytes.
+fn record_count(bytes: &[u8]) -> usize
+    requires { ⌜ LaidOut (now bytes) ⌝ }
+    ensures { λ r. ⌜ r ≡ length (marks (now (bytes .entry))) ⌝ }
+{
+    (bytes.len() - FIRST_POINT) / POINT_LENGTH - 1
+}
+
+// The point of a record, by the record's number.
+fn point_at(bytes: &[u8], i: usize) -> u16
+    requires { ⌜ LaidOut (now bytes) ⌝ }
+    requires { ⌜ i < length (marks (now bytes)) ⌝ }
+    ensures { λ r. ⌜ r ≡ getD (storedPoints (now (bytes .entry))) i 0 ⌝ }
+{
+    let place = FIRST_POINT + POINT_LENGTH * i;
+    records::word(bytes[place + 1], bytes[place + 2])
+}
+
+// A point of a record is 2^n or more.
+fn points_outside(bytes: &[u8], n: usize) -> bool
+    requires { ⌜ LaidOut (now bytes) ⌝ }
+    requires { ⌜ n ≤ maxVariables ⌝ }
+    ensures { λ r. ⌜ r ≡ outside n (storedPoints (now (bytes .entry))) ⌝ }
+{
+    let size = table::point_count(n);
+    let count = record_count(bytes);
+    let mut i = 0;
+    while i < count {
+        if point_at(bytes, i) >= size {
+            return true;
+        }
+        i += 1;
+    }
+    false
+}
+
+// The point of a record isn't greater than that of the record before it.
+fn points_unordered(bytes: &[u8]) -> bool
+    requires { ⌜ LaidOut (now bytes) ⌝ }
+    ensures { λ r. ⌜ r ≡ unordered (storedPoints (now (bytes .entry))) ⌝ }
+{
+    let count = record_count(bytes);
+    let mut i = 0;
+    while i + 1 < count {
+        if point_at(bytes, i + 1) <= point_at(bytes, i) {
+            return true;
+        }
+        i += 1;
+    }
+    false
+}
+
+// The refusal of a stored table, or 0: the layout over the whole length, then n, then all points, then their order as one list.
+pub fn stored_fault(bytes: &[u8]) -> u8
+    ensures { λ r. ⌜ r ≡ storedFault (now (bytes .entry)) ⌝ }
+{
+    let fault = layout_fault(walk_table(bytes));
+    if fault != 0 {
+        return fault;
+    }
+    let n = bytes[1] as usize;
+    if table::bad_count(n) {
+        return table::VARIABLES_FAULT;
+    }
+    if points_outside(bytes, n) {
+        return table::POINT_FAULT;
+    }
+    if points_unordered(bytes) {
+        return table::ORDER_FAULT;
+    }
+    0
+}
+
+// What reading gives: the refusal or 0, n, and how many on and free points there are.
+#[repr(C)]
+pub struct TableRead {
+    pub refusal: u8,
+    pub variables: usize,
+    pub on_count: usize,
+    pub free_count: usize,
+}
+
+// A record, by its number, is of an on point if those are asked for, or else of a free point.
+fn is_marked(bytes: &[u8], i: usize, on: bool) -> bool
+    requires { ⌜ LaidOut (now bytes) ⌝ }
+    requires { ⌜ i < length (marks (now bytes)) ⌝ }
+    ensures { λ r. ⌜ r ≡ Bool·beq on (getD (marks (now (bytes .entry))) i noMark .isOn) ⌝ }
+{
+    let place = FIRST_POINT + POINT_LENGTH * i;
+    on == (bytes[place] == records::ON_KIND)
+}
+
+// The number of on points, or of free points.
+fn count_points(bytes: &[u8], on: bool) -> usize
+    requires { ⌜ LaidOut (now bytes) ⌝ }
+    ensures { λ r. ⌜ r ≡ length (pointsOf on (marks (now (bytes .entry)))) ⌝ }
+{
+    let count = record_count(bytes);
+    let mut found = 0;
+    let mut i = 0;
+    while i < count {
+        if is_marked(bytes, i, on) {
+            found += 1;
+        }
+        i += 1;
+    }
+    found
+}
+
+// The on points, or the free points, written to the front of the room; how many they are.
+fn write_points(bytes: &[u8], on: bool, room: &mut [u16]) -> usize
+    requires { ⌜ LaidOut (now bytes) ⌝ }
+    requires { ⌜ length (pointsOf on (marks (now bytes))) ≤ length (now room) ⌝ }
+    ensures { λ r. ⌜ r ≡ length (pointsOf on (marks (now (bytes .entry)))) ⌝ }
+    ensures { λ r. ⌜ now (room .exit) ≡ pointsOf on (marks (now (bytes .entry))) ++ drop (length (pointsOf on (marks (now (bytes .entry))))) (now (room .entry)) ⌝ }
+{
+    let count = record_count(bytes);
+    let mut at = 0;
+    let mut i = 0;
+    while i < count {
+        if is_marked(bytes, i, on) {
+            room[at] = point_at(bytes, i);
+            at += 1;
+        }
+        i += 1;
+    }
+    at
+}
+
+// The refusal of reading into rooms of these lengths, or 0.
+fn read_fault(bytes: &[u8], on: usize, free: usize) -> u8
+    ensures { λ r. ⌜ r ≡ readFault (now (bytes .entry)) on free ⌝ }
+{
+    let fault = stored_fault(bytes);
+    if fault != 0 {
+        return fault;
+    }
+    if on < count_points(bytes, true) {
+        return table::ROOM_FAULT;
+    }
+    if free < count_points(bytes, false) {
+        return table::ROOM_FAULT;
+    }
+    0
+}
+
+// The stored table read into two rooms, one for the on points and one for the free points. A refusal writes to neither.
+pub fn read_table(bytes: &[u8], on: &mut [u16], free: &mut [u16]) -> TableRead
+    ensures { λ r. ⌜ r ≡ readAnswer (now (bytes .entry)) (length (now (on .entry))) (length (now (free .entry))) ⌝ }
+    ensures { λ r. ⌜ now (on .exit) ≡ onAfter (now (bytes .entry)) (now (on .entry)) (now (free .entry)) ⌝ }
+    ensures { λ r. ⌜ now (free .exit) ≡ freeAfter (now (bytes .entry)) (now (on .entry)) (now (free .entry)) ⌝ }
+{
+    let fault = read_fault(bytes, on.len(), free.len());
+    if fault != 0 {
+        return TableRead {
+            refusal: fault,
+            variables: 0,
+            on_count: 0,
+            free_count: 0,
+        };
+    }
+    let on_count = write_points(bytes, true, &mut *on);
+    let free_count = write_points(bytes, false, &mut *free);
+    TableRead {
+        refusal: 0,
+        variables: bytes[1] as usize,
+        on_count: on_count,
+        free_count: free_count,
+    }
+}
