@@ -1,0 +1,34 @@
+-- The numbers of candidates of no variables to six: document 01's, computed from the law for any number of variables.
+use mathlib.Core.Path.{_≡_, refl, ap, ap₂, _∙_}
+use mathlib.Core.List.{List, [], _∷_, map, flatMap}
+use Prim.Native.Nat.{ℕ, zero, suc, _≤_}
+use native.Mathlib.Omega.{arith}
+use lib.ListN.{getD}
+use Rattle.gf2.specs.Bits.{bit, halvings, lead}
+use Rattle.gf2.specs.Finite.{select}
+use Rattle.cubes.specs.Lists.{keep}
+use Rattle.cubes.specs.Candidates.{bases, candidateCount}
+use Rattle.cubes.proofs.Counts.{total, candidates-total}
+
+totals : map (λ n. total n n) (0 ∷ 1 ∷ 2 ∷ 3 ∷ 4 ∷ 5 ∷ 6 ∷ []) ≡ 1 ∷ 3 ∷ 11 ∷ 51 ∷ 307 ∷ 2451 ∷ 26387 ∷ []
+unfolding total bases flatMap keep select bit halvings lead
+totals = refl
+
+each : (ns : List ℕ) → map candidateCount ns ≡ map (λ n. total n n) ns
+each [] = refl
+each (n ∷ ns) = ap₂ _∷_ (candidates-total n) (each ns)
+
+-- One candidate without variables, and 3, 11, 51, 307, 2,451 and 26,387 for one to six variables.
+pub counts : map candidateCount (0 ∷ 1 ∷ 2 ∷ 3 ∷ 4 ∷ 5 ∷ 6 ∷ []) ≡ 1 ∷ 3 ∷ 11 ∷ 51 ∷ 307 ∷ 2451 ∷ 26387 ∷ []
+counts = each (0 ∷ 1 ∷ 2 ∷ 3 ∷ 4 ∷ 5 ∷ 6 ∷ []) ∙ totals
+
+-- The same for one number of variables.
+pub count-at : (n : ℕ) → n ≤ 6 → candidateCount n ≡ getD (1 ∷ 3 ∷ 11 ∷ 51 ∷ 307 ∷ 2451 ∷ 26387 ∷ []) n 0
+count-at zero h = ap (λ l. getD l 0 0) counts
+count-at (suc zero) h = ap (λ l. getD l 1 0) counts
+count-at (suc (suc zero)) h = ap (λ l. getD l 2 0) counts
+count-at (suc (suc (suc zero))) h = ap (λ l. getD l 3 0) counts
+count-at (suc (suc (suc (suc zero)))) h = ap (λ l. getD l 4 0) counts
+count-at (suc (suc (suc (suc (suc zero))))) h = ap (λ l. getD l 5 0) counts
+count-at (suc (suc (suc (suc (suc (suc zero)))))) h = ap (λ l. getD l 6 0) counts
+count-at (suc (suc (suc (suc (suc (suc (suc n))))))) h = absurd (omega arith)

@@ -1,0 +1,2 @@
+-- The law that other crates cite: `counts`.
+pub mod Counts

@@ -1,0 +1,14 @@
+-- Laws about the definitions in specs/, each heading there has its file here; read in this order. Lists serves the others.
+-- The laws that other crates cite first: `cube-candidate`, `same-candidate`, `candidate-size` (Cubes), `basis-is`, `candidate-is`,
+-- `candidates-listing`, `candidates-only` (Candidates), `every-point`, `some-point`, `prime-is`, `prime-alone`, `one-prime` (Primes),
+-- `every-step`, `some-step`, `prime-count` (Spaces), `least-count`, `candidates-total` (Counts), `record-one`, `passage-listed`, `listed-only`,
+-- `accepted-is` (Listing), `demand3` (Calls).
+pub mod Lists
+pub mod Cubes
+pub mod Candidates
+pub mod Primes
+pub mod Spaces
+pub mod Counts
+pub mod Listing
+pub mod Calls
+pub mod Examples
