@@ -1,0 +1,98 @@
+//! Times of the static library's calls beside plain Rust with the same
+//! algorithms, in one run, and their ratio. Follows document 01, section "Points
+//! and spaces". The address at which a tight loop happens to stand changes its
+//! time by up to a third, on either side, so a ratio says no more than that.
+
+mod measure;
+mod plain;
+
+use library::{Analysis, Completion};
+use measure::compare;
+use reference::generate::{self, Generator};
+use reference::table::Table;
+use std::fmt::Debug;
+use std::hint::black_box;
+
+const VARIABLES: usize = 12;
+
+/// Random tables of a case: so many that the processor can't learn their
+/// branches by heart from one turn to the next.
+const RANDOM_TABLES: usize = 16;
+
+/// Random tables with so many of a hundred points on, and so many free.
+fn random_tables(on_percent: usize, free_percent: usize) -> Vec<Table> {
+    let mut generator = Generator::new(1);
+    let tables = 0..RANDOM_TABLES;
+    tables
+        .map(|_| generate::random_table(&mut generator, VARIABLES, on_percent, free_percent))
+        .collect()
+}
+
+/// Times the linear space call on the on points of each table.
+fn linear_space(title: &str, tables: &[Table]) {
+    for (n, on, _) in tables {
+        assert_eq!(library::linear_space(*n, on), plain::linear_space(*n, on));
+    }
+    compare(
+        &format!("linear space, {title}"),
+        tables,
+        |(n, on, _)| library::linear_space(black_box(*n), black_box(on)),
+        |(n, on, _)| plain::linear_space(black_box(*n), black_box(on)),
+    );
+}
+
+/// A call that takes a table and writes points.
+type PointCall<T> = fn(usize, &[u16], &[u16], &mut [u16]) -> T;
+
+/// Makes a call that takes a table and writes points, hidden from the optimizer.
+fn make<T>(call: PointCall<T>, (n, on, free): &Table, room: &mut [u16]) -> T {
+    call(
+        black_box(*n),
+        black_box(on),
+        black_box(free),
+        black_box(room),
+    )
+}
+
+/// Times a call that takes a table and writes points, after a comparison of what
+/// both sides return and write.
+fn point_call<T: PartialEq + Debug>(
+    title: &str,
+    tables: &[Table],
+    library_call: PointCall<T>,
+    plain_call: PointCall<T>,
+) {
+    let (mut library_room, mut plain_room) = (vec![0; 4096], vec![0; 4096]);
+    for table in tables {
+        let answer = make(library_call, table, &mut library_room);
+        assert_eq!(answer, make(plain_call, table, &mut plain_room));
+        assert_eq!(library_room, plain_room);
+    }
+    compare(
+        title,
+        tables,
+        |table| make(library_call, table, &mut library_room),
+        |table| make(plain_call, table, &mut plain_room),
+    );
+}
+
+fn main() {
+    let with_free = random_tables(40, 20);
+    measure::print_head();
+    linear_space("n 12, random", &random_tables(50, 0));
+    linear_space("n 12, on 4095 alone", &[(VARIABLES, vec![4095], vec![])]);
+    linear_space("n 12, parity", &[generate::weight_bit(VARIABLES, 0)]);
+    linear_space("n 12, all on", &[generate::threshold(VARIABLES, 0)]);
+    point_call::<Analysis>(
+        "analyse, n 12, random with free points",
+        &with_free,
+        library::analyse,
+        plain::analyse,
+    );
+    point_call::<Completion>(
+        "complete, n 12, random with free points",
+        &with_free,
+        library::complete,
+        plain::complete,
+    );
+}

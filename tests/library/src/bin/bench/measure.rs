@@ -1,0 +1,58 @@
+//! Measures two ways to do the same work, in turns, and prints both times. The
+//! work is that of document 01, section "Points and spaces".
+
+use std::hint::black_box;
+use std::time::{Duration, Instant};
+
+/// Fewest turns of each side; the shortest time of a side counts.
+const FEWEST_TURNS: usize = 300;
+
+/// Both sides go on for at least this time.
+const LEAST_TIME: Duration = Duration::from_secs(1);
+
+/// Prints the head of the columns.
+pub fn print_head() {
+    println!(
+        "{:<42} {:>12} {:>12} {:>7}",
+        "call and table", "library us", "plain us", "ratio"
+    );
+}
+
+/// Time of one turn: the work done once on each input.
+fn time<I, T>(inputs: &[I], work: &mut impl FnMut(&I) -> T) -> Duration {
+    let start = Instant::now();
+    for input in inputs {
+        black_box(work(input));
+    }
+    start.elapsed()
+}
+
+/// Runs both sides in turns, each first in half of them, and prints the shortest
+/// time of each, in microseconds for one input, and the ratio.
+pub fn compare<I, T>(
+    title: &str,
+    inputs: &[I],
+    mut library: impl FnMut(&I) -> T,
+    mut plain: impl FnMut(&I) -> T,
+) {
+    let (mut library_time, mut plain_time) = (Duration::MAX, Duration::MAX);
+    let (mut turn, start) = (0, Instant::now());
+    while turn < FEWEST_TURNS || start.elapsed() < LEAST_TIME {
+        let library_first = turn % 2 == 0;
+        if library_first {
+            library_time = library_time.min(time(inputs, &mut library));
+        }
+        plain_time = plain_time.min(time(inputs, &mut plain));
+        if !library_first {
+            library_time = library_time.min(time(inputs, &mut library));
+        }
+        turn += 1;
+    }
+    let micros = |time: Duration| time.as_secs_f64() * 1e6 / inputs.len() as f64;
+    println!(
+        "{title:<42} {:>12.2} {:>12.2} {:>7.2}",
+        micros(library_time),
+        micros(plain_time),
+        library_time.as_secs_f64() / plain_time.as_secs_f64()
+    );
+}

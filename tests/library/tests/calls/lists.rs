@@ -1,0 +1,111 @@
+//! Pairs of an on list and a free list, most of them faulty, often in several
+//! ways at once, so that the order of the refusals matters. Follows document 01,
+//! section "Refusal numbers".
+
+/// Numbers of variables to try: all that are accepted, and refused ones, among
+/// them those that a narrower number would take for 12 or less.
+pub fn variable_counts() -> Vec<usize> {
+    let accepted = 1..=12;
+    let refused = [
+        0,
+        13,
+        14,
+        16,
+        63,
+        64,
+        76,
+        128,
+        255,
+        256,
+        256 + 12,
+        65_536 + 12,
+        (1 << 32) + 12,
+        (1 << 63) + 12,
+        usize::MAX,
+    ];
+    accepted.chain(refused).collect()
+}
+
+/// Lists for n variables: good ones; points of 2^n and more; equal and falling
+/// points; lists longer than any table. For a refused n they are those of
+/// another.
+fn lists_of(n: usize) -> Vec<Vec<u16>> {
+    let width = n.clamp(1, 12);
+    let size = 1u16 << width;
+    let (last, middle) = (size - 1, size / 2);
+    vec![
+        vec![],
+        vec![0],
+        vec![middle],
+        vec![last],
+        vec![0, last],
+        (0..size).collect(),
+        (0..size).step_by(2).collect(),
+        vec![size],
+        vec![0, size],
+        vec![last, size + 1],
+        vec![4096],
+        vec![0, 65_535],
+        vec![65_535, 0],
+        vec![size, size],
+        vec![0, 0, size],
+        vec![0, 0],
+        vec![last, last],
+        vec![0, last, last],
+        vec![last, 0],
+        vec![0, last, middle],
+        (0..size).chain([last]).collect(),
+        (0..5000).collect(),
+        vec![0; 5000],
+        (0..size).cycle().take(8192).collect(),
+    ]
+}
+
+/// Every pair of the lists above, for every number of variables above.
+pub fn pairs() -> impl Iterator<Item = (usize, Vec<u16>, Vec<u16>)> {
+    variable_counts().into_iter().flat_map(|n| {
+        let lists = lists_of(n);
+        let others = lists.clone();
+        lists.into_iter().flat_map(move |on| {
+            let frees = others.clone().into_iter();
+            frees.map(move |free| (n, on.clone(), free))
+        })
+    })
+}
+
+/// Every list above alone, for every number of variables above.
+pub fn singles() -> impl Iterator<Item = (usize, Vec<u16>)> {
+    let counts = variable_counts().into_iter();
+    counts.flat_map(|n| lists_of(n).into_iter().map(move |on| (n, on)))
+}
+
+/// n, on points, free points, and the refusal number by the order 1, 2, 3, 4.
+pub type Case = (usize, &'static [u16], &'static [u16], u8);
+
+/// Cases with several faults at once, and the bounds of each number.
+pub const ORDERED: [Case; 24] = [
+    (0, &[], &[], 1),
+    (0, &[1, 1], &[1], 1),
+    (13, &[65_535, 0], &[0], 1),
+    (usize::MAX, &[0], &[0], 1),
+    (12, &[4096], &[], 2),
+    (12, &[], &[4096], 2),
+    (12, &[], &[65_535], 2),
+    (1, &[2], &[], 2),
+    (2, &[4, 4], &[], 2),
+    (2, &[1, 1], &[4], 2),
+    (2, &[1, 1, 4], &[], 2),
+    (2, &[4], &[1, 1], 2),
+    (2, &[1, 4], &[1, 4], 2),
+    (2, &[1, 1], &[], 3),
+    (2, &[], &[2, 1], 3),
+    (2, &[0, 1, 3, 2], &[], 3),
+    (2, &[1, 1], &[1], 3),
+    (2, &[1], &[1, 1], 3),
+    (2, &[1, 3], &[3, 1], 3),
+    (2, &[1], &[1], 4),
+    (2, &[0, 3], &[1, 3], 4),
+    (2, &[0, 1], &[0, 2], 4),
+    (12, &[0, 4095], &[4095], 4),
+    (12, &[0], &[0], 4),
+];

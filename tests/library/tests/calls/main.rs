@@ -1,0 +1,23 @@
+//! Comparison of each call of the static library with the reference, one module
+//! to a call; `examples`, `published` and `vectors` compare with fixed answers
+//! instead. Follows document 01, sections "Points and spaces", "The written
+//! form", "Refusal numbers" and "Table of proved examples".
+//!
+//! A further call takes a module here with its own `compare` and the inputs of
+//! `tables`, `lists` and `stored`, and one in the package's `src` folder.
+
+mod lent;
+mod lists;
+mod stored;
+mod tables;
+mod tally;
+
+mod affine;
+mod analyse;
+mod complete;
+mod linear_space;
+mod read_table;
+
+mod examples;
+mod published;
+mod vectors;

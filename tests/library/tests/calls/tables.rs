@@ -1,0 +1,169 @@
+//! Tables that every call on lists is compared on: all small ones, random ones
+//! and those of known functions. Follows document 01, section "Points and
+//! spaces". The same seed gives the same tables.
+
+use reference::generate::{self, Generator};
+use reference::space;
+use reference::table::Table;
+
+/// The table of n variables whose points are off, on or free by the digits of a
+/// number to base 3, that of point 0 lowest.
+fn numbered_table(n: usize, number: usize) -> Table {
+    let (mut on, mut free) = (Vec::new(), Vec::new());
+    let mut rest = number;
+    for point in 0..1u16 << n {
+        match rest % 3 {
+            0 => {}
+            1 => on.push(point),
+            _ => free.push(point),
+        }
+        rest /= 3;
+    }
+    (n, on, free)
+}
+
+/// Every table of 1, 2 and 3 variables: 9, 81 and 6,561 of them.
+pub fn small_tables() -> impl Iterator<Item = Table> {
+    let numbers_of = |n: usize| 0..3usize.pow(1 << n);
+    (1..=3).flat_map(move |n| numbers_of(n).map(move |number| numbered_table(n, number)))
+}
+
+/// The on points of every function of 4 variables: 65,536 of them.
+pub fn functions_of_four() -> impl Iterator<Item = Vec<u16>> {
+    (0..1u32 << 16).map(|set| (0..16).filter(|point| set >> point & 1 == 1).collect())
+}
+
+/// A maker of random tables of n variables.
+type Maker = fn(&mut Generator, usize) -> Table;
+
+/// Any density of on points; no free point.
+fn any_density(generator: &mut Generator, n: usize) -> Table {
+    let on_percent = generator.below(101);
+    generate::random_table(generator, n, on_percent, 0)
+}
+
+/// Any densities of on and of free points.
+fn any_densities(generator: &mut Generator, n: usize) -> Table {
+    let on_percent = generator.below(101);
+    let free_percent = generator.below(101 - on_percent);
+    generate::random_table(generator, n, on_percent, free_percent)
+}
+
+/// At most eight points, each on or free.
+fn few_points(generator: &mut Generator, n: usize) -> Table {
+    let mut points: Vec<u16> = (0..generator.below(9))
+        .map(|_| generator.below(1 << n) as u16)
+        .collect();
+    points.sort_unstable();
+    points.dedup();
+    let (on, free) = points.into_iter().partition(|_| generator.chance(70));
+    (n, on, free)
+}
+
+/// A function built from a random space and a random restriction.
+fn closed(generator: &mut Generator, n: usize) -> Table {
+    let dimension = generator.below(n + 1);
+    let on_percent = generator.below(101);
+    generate::closed_table(generator, n, dimension, on_percent)
+}
+
+/// As before, and some of its on points are made free: all on has a space.
+fn closed_with_free_on(generator: &mut Generator, n: usize) -> Table {
+    let (_, all, _) = closed(generator, n);
+    let percent = generator.below(101);
+    let (free, on) = all.into_iter().partition(|_| generator.chance(percent));
+    (n, on, free)
+}
+
+/// As before, and some of its off points are made free: all off has a space.
+fn closed_with_free_off(generator: &mut Generator, n: usize) -> Table {
+    let (_, on, _) = closed(generator, n);
+    let percent = generator.below(101);
+    let flags = space::flags(n, &on);
+    let off = (0..1u16 << n).filter(|&point| !flags[usize::from(point)]);
+    let free = off.filter(|_| generator.chance(percent)).collect();
+    (n, on, free)
+}
+
+/// As before, and some points of both kinds are made free.
+fn closed_with_free_points(generator: &mut Generator, n: usize) -> Table {
+    let table = closed(generator, n);
+    let percent = generator.below(20);
+    generate::with_free_points(generator, &table, percent)
+}
+
+/// Points of a random affine space are on; points anywhere else may be free.
+fn inside_affine(generator: &mut Generator, n: usize) -> Table {
+    let dimension = generator.below(n + 1);
+    let directions = space::span(&generate::random_space(generator, n, dimension));
+    let origin = generator.below(1 << n) as u16;
+    let (on_percent, free_percent) = (generator.below(101), generator.below(30));
+    let members: Vec<u16> = directions.iter().map(|vector| vector ^ origin).collect();
+    let flags = space::flags(n, &members);
+    let (mut on, mut free) = (Vec::new(), Vec::new());
+    for point in 0..1u16 << n {
+        if flags[usize::from(point)] && generator.chance(on_percent) {
+            on.push(point);
+        } else if generator.chance(free_percent) {
+            free.push(point);
+        }
+    }
+    (n, on, free)
+}
+
+const MAKERS: [Maker; 8] = [
+    any_density,
+    any_densities,
+    few_points,
+    closed,
+    closed_with_free_on,
+    closed_with_free_off,
+    closed_with_free_points,
+    inside_affine,
+];
+
+/// Rounds of random tables for each number of variables and each maker.
+const ROUNDS: usize = 32;
+
+/// Random tables of 1 to 12 variables: 3,072 of them.
+pub fn random_tables(seed: u64) -> impl Iterator<Item = Table> {
+    let mut generator = Generator::new(seed);
+    let widths = (0..ROUNDS).flat_map(|_| 1..=12);
+    let kinds = widths.flat_map(|n| MAKERS.map(|maker| (n, maker)));
+    kinds.map(move |(n, maker)| maker(&mut generator, n))
+}
+
+/// Counters of set variables, thresholds, parities, constants and single points
+/// of n variables.
+fn symmetric_tables(n: usize) -> Vec<Table> {
+    let variables = n as u32;
+    let last = ((1u32 << n) - 1) as u16;
+    let mut tables = vec![
+        generate::table_of(n, |point| point == 0),
+        generate::table_of(n, |point| point == last),
+        generate::table_of(n, |point| point != 0),
+        generate::table_of(n, |point| point != last),
+        generate::parity(n, last, 0),
+        generate::parity(n, last / 3 + 1, 1),
+        generate::weight_between(n, variables / 3, 2 * variables / 3),
+    ];
+    tables.extend((0..=variables + 1).map(|low| generate::threshold(n, low)));
+    tables.extend((0..4).map(|bit| generate::weight_bit(n, bit)));
+    tables
+}
+
+/// Tables of known functions of up to 12 variables, each also with a tenth and
+/// with half of its points made free.
+pub fn known_tables() -> impl Iterator<Item = Table> {
+    let mut tables: Vec<Table> = (1..=12).flat_map(symmetric_tables).collect();
+    for width in 1..=6 {
+        tables.extend((0..=width).map(|output| generate::adder_output(width, output)));
+    }
+    tables.push(generate::life());
+    let mut generator = Generator::new(1);
+    tables.into_iter().flat_map(move |table| {
+        let few = generate::with_free_points(&mut generator, &table, 10);
+        let many = generate::with_free_points(&mut generator, &table, 50);
+        [table, few, many]
+    })
+}

@@ -1,0 +1,15 @@
+//! A plain reference for the whole library, written from the definitions and
+//! made to judge, not to be fast. Follows document 01, section "What the
+//! library holds"; each module names the section that it follows.
+
+pub mod calls;
+pub mod cover;
+pub mod form;
+pub mod generate;
+pub mod numbers;
+pub mod primes;
+pub mod refusal;
+pub mod report;
+pub mod space;
+pub mod table;
+pub mod walk;

@@ -1,0 +1,57 @@
+//! Lines of the report that are easy to get wrong, with whole outputs.
+//! Follows document 01, section "The printed report".
+
+use reference::calls;
+use reference::table;
+
+/// The report of a table given as two lists.
+fn report(n: usize, on: &[u16], free: &[u16]) -> String {
+    calls::report(&table::write_stored(n, on, free))
+}
+
+#[test]
+fn empty_lists_and_products_without_factors() {
+    let nowhere = "variables 1\non 0 free 0\ndegree 1\ncanonical 1\nrestriction -\n";
+    assert_eq!(report(1, &[], &[]), nowhere);
+    let everywhere = "variables 1\non 2 free 0\ndegree 1\ncanonical 1\nrestriction 0\nproduct 1\n";
+    assert_eq!(report(1, &[0, 1], &[]), everywhere);
+    let one_point = "variables 1\non 1 free 0\ndegree 0\ncanonical -\ny1 = x1\n\
+                     restriction 0\nproduct x1=0\n";
+    assert_eq!(report(1, &[0], &[]), one_point);
+}
+
+#[test]
+fn counts_are_those_of_the_input() {
+    let text = report(2, &[0], &[1, 2, 3]);
+    let expected = "variables 2\non 1 free 3\ndegree 2\ncanonical 1 2\nrestriction 0\nproduct 1\n";
+    assert_eq!(text, expected);
+    let text = report(2, &[], &[0, 1, 2, 3]);
+    let expected = "variables 2\non 0 free 4\ndegree 2\ncanonical 1 2\nrestriction -\n";
+    assert_eq!(text, expected);
+}
+
+#[test]
+fn variables_stand_in_index_order() {
+    let expected = "variables 3\non 4 free 0\ndegree 2\ncanonical 1 2\ny1 = x1 + x2 + x3\n\
+                    restriction 1\nproduct x1+x2+x3=1\n";
+    assert_eq!(report(3, &[1, 2, 4, 7], &[]), expected);
+}
+
+#[test]
+fn a_refused_table_prints_its_number_alone() {
+    let on = |point| (0x4F, point);
+    assert_eq!(calls::report(&[]), "refused 8\n");
+    assert_eq!(calls::report(&[0x4E, 13, 0x45, 0, 0]), "refused 1\n");
+    let large = table::write_records(2, &[on(1), on(1), on(4)]);
+    assert_eq!(calls::report(&large), "refused 2\n");
+    let both = table::write_records(2, &[on(1), (0x44, 1)]);
+    assert_eq!(calls::report(&both), "refused 3\n");
+}
+
+#[test]
+fn a_refused_form_stands_after_the_restriction() {
+    let text = report(7, &[0], &[]);
+    let expected = "variables 7\non 1 free 0\ndegree 0\ncanonical -\ny1 = x1\ny2 = x2\n\
+                    y3 = x3\ny4 = x4\ny5 = x5\ny6 = x6\ny7 = x7\nrestriction 0\nrefused 5\n";
+    assert_eq!(text, expected);
+}
