@@ -1,8 +1,7 @@
 -- Laws of specs.Kinds: the byte of each known kind, and that a number of two bytes and its bytes give each other.
-use mathlib.Core.Path.{_≡_}
+use mathlib.Core.Path.{_≡_, refl, subst}
 use mathlib.Core.Bool.{Bool, true, false, cond}
-use Prim.Native.Nat.{ℕ, _<_, _*_}
-use mathlib.Core.Path.{refl}
+use Prim.Native.Nat.{ℕ, _<_}
 use native.Mathlib.Omega.{arith}
 use lib.Dec.{eqb}
 use borrow.Author.Tests.{eqb-true}
@@ -21,7 +20,7 @@ StandsFor Free byte = byte ≡ freeKind
 StandsFor Unknown byte = Unit {0}
 
 -- Each known kind has one byte.
-pub stands : (byte : ℕ) → StandsFor (kindOf byte) byte
+stands : (byte : ℕ) → StandsFor (kindOf byte) byte
 unfolding kindOf
 stands byte =
     tested (eqb byte variablesKind) Variables _ (eqb-true byte variablesKind)
@@ -33,6 +32,9 @@ stands byte =
     tested : (t : Bool) (k l : Kind) → (t ≡ true → StandsFor k byte) → StandsFor l byte → StandsFor (cond t k l) byte
     tested true k l p q = p refl
     tested false k l p q = q
+
+pub kind-byte : (byte : ℕ) {k : Kind} → kindOf byte ≡ k → StandsFor k byte
+kind-byte byte e = subst (λ (k : Kind). StandsFor k byte) e (stands byte)
 
 -- The two bytes of a number give it back, and two bytes are those of their number.
 pub word-of-bytes : (word : ℕ) → wordOf (lowByte word) (highByte word) ≡ word

@@ -54,5 +54,6 @@ stored-accepted bytes e =
       apart = points-apart (marks bytes) rises;
     }
 
+-- So it has none of the refusals of a table given by lists.
 pub stored-table : (bytes : List ℕ) → storedFault bytes ≡ 0 → tableFault (storedVariables bytes) (storedOn bytes) (storedFree bytes) ≡ 0
 stored-table bytes e = no-refusal (storedVariables bytes) (storedOn bytes) (storedFree bytes) (stored-accepted bytes e)

@@ -2,26 +2,22 @@
 -- written (`laid-exactly`, `encoded-marks`). Read next: Points.
 use mathlib.Core.Path.{_≡_, refl, sym, ap, _∙_, subst}
 use mathlib.Core.Bool.{Bool, true, false}
-use mathlib.Core.Logic.{_≢_, inl, inr, _↔_}
+use mathlib.Core.Logic.{inl, inr, _↔_}
 use mathlib.Core.List.{List, [], _∷_, _++_}
 use Prim.Native.Nat.{ℕ, _≤_, _<_, _+_, _*_}
 use native.Mathlib.Omega.{arith}
-use lib.ListN.{length, drop}
+use lib.ListN.{length}
 use Rattle.gf2.specs.Finite.{Mem}
-use Rattle.gf2.proofs.Logic.{clash}
-use Rattle.gf2.proofs.Finite.{append-mem}
 use Rattle.table.specs.Flags.{maxPoints}
-use Rattle.records.specs.declared.Kind.{Kind}
-use Rattle.records.specs.declared.Kind.the-variants.{Variables, End}
+use Rattle.records.specs.declared.Kind.the-variants.{End}
 use Rattle.records.specs.Kinds.{variablesKind, endKind, kindOf, wordOf, lowByte, highByte}
-use Rattle.records.proofs.KindBytes.{StandsFor, stands, word-of-bytes, low-of-word, high-of-word}
-use Rattle.stored.specs.declared.Walk.{Walk}
-use Rattle.stored.specs.declared.Walk.the-variants.{Laid, WrongKind, Missing, WrongCount, After}
+use Rattle.records.proofs.KindBytes.{kind-byte, word-of-bytes, low-of-word, high-of-word}
+use Rattle.stored.specs.declared.Walk.the-variants.{Laid}
 use Rattle.stored.specs.Layout.{walked, longestTable}
-use Rattle.stored.specs.Marks.{Mark, mark, recordMarks, marks, storedVariables}
+use Rattle.stored.specs.Marks.{Mark, recordMarks, marks, storedVariables}
 use Rattle.stored.specs.Encoding.{Bytes, markKind, encodeMarks, encodeEnd, encodeTable, Encoded}
 use Rattle.stored.specs.Stored.{isFault, LaidOut}
-use Rattle.stored.proofs.Laying.{pointKind, Laying, end, point, LaidAs, table, walk-laid, laid-few, laid-marks, laid-as, marks-point, marks-end}
+use Rattle.stored.proofs.Laying.{pointKind, Laying, end, point, LaidAs, table, laid, walk-laid, laid-few, laid-marks, laid-as, marks-point, marks-end}
 
 -- ---- what is written is read
 
@@ -46,6 +42,7 @@ encoded-as : (n : ℕ) (ms : List Mark) → length ms ≤ maxPoints → LaidAs (
 unfolding encodeTable kindOf
 encoded-as n ms h = table refl (encoded-laying ms 2 0 (length ms) (omega arith) (omega arith))
 
+-- The walk accepts an encoding, and n and the marks are read back.
 pub encoded-laid : (n : ℕ) (ms : List Mark) → length ms ≤ maxPoints → walked (encodeTable n ms) ≡ Laid (length ms)
 encoded-laid n ms h = walk-laid (encoded-as n ms h)
 
@@ -66,17 +63,14 @@ encoded-marks n ms = read-marks ms (length ms)
 
 -- ---- what is read was written
 
-known-byte : (byte : ℕ) (k : Kind) → kindOf byte ≡ k → StandsFor k byte
-known-byte byte k q = subst (λ (k : Kind). StandsFor k byte) q (stands byte)
-
 point-byte : (byte : ℕ) (isOn : Bool) → kindOf byte ≡ pointKind isOn → byte ≡ markKind isOn
-point-byte byte true q = known-byte byte (pointKind true) q
-point-byte byte false q = known-byte byte (pointKind false) q
+point-byte byte true q = kind-byte byte q
+point-byte byte false q = kind-byte byte q
 
 laying-encoded : {rest : List ℕ} {place count all : ℕ} → Bytes rest → Laying rest place count all → rest ≡ encodeMarks (recordMarks rest) ++ encodeEnd all
 unfolding encodeMarks
 laying-encoded {all = all} b (end {byte} {low} {high} o q w a) =
-    let first = known-byte byte End q in
+    let first : byte ≡ endKind = kind-byte byte q in
     let second : low ≡ lowByte all = sym (low-of-word low high (b low (inr (inl refl)))) ∙ ap lowByte (w ∙ a) in
     let third : high ≡ highByte all = sym (high-of-word low high (b low (inr (inl refl)))) ∙ ap highByte (w ∙ a) in
     rw (marks-end byte low high q) (cc)
@@ -100,13 +94,14 @@ laying-words b (point {byte} {low} {high} {rest} isOn o q r) m k =
 as-encoded : {bytes : List ℕ} {all : ℕ} → Bytes bytes → LaidAs bytes all → bytes ≡ encodeTable (storedVariables bytes) (marks bytes)
 unfolding encodeTable
 as-encoded b (table {byte} {n} {rest} {all} q r) =
-    let first : byte ≡ variablesKind = known-byte byte Variables q in
+    let first : byte ≡ variablesKind = kind-byte byte q in
     let number : length (recordMarks rest) ≡ all = laid-marks (table {n = n} q r) in
     let others = laying-encoded (λ x m. b x (inr (inr m))) r in
     rw number (cc)
 
-pub laid-encoded : (bytes : List ℕ) → Bytes bytes → LaidOut bytes → bytes ≡ encodeTable (storedVariables bytes) (marks bytes)
-laid-encoded bytes b h = as-encoded b (laid-as bytes h)
+-- What the walk finds to be a table is the encoding of what is read there.
+pub laid-encoded : (bytes : List ℕ) (all : ℕ) → Bytes bytes → walked bytes ≡ Laid all → (bytes ≡ encodeTable (storedVariables bytes) (marks bytes)) × (length (marks bytes) ≡ all) × (all ≤ maxPoints)
+laid-encoded bytes all b e = let a = laid bytes all e in (as-encoded b a, laid-marks a, laid-few a)
 
 as-words : {bytes : List ℕ} {all : ℕ} → Bytes bytes → LaidAs bytes all → (storedVariables bytes < 256) × ((m : Mark) → Mem m (marks bytes) → m .point < 65536)
 as-words b (table {byte} {n} q r) = (b n (inr (inl refl)), laying-words (λ x m. b x (inr (inr m))) r)
@@ -146,7 +141,7 @@ laid-exactly bytes = (
         one-byte = as-words (h .0) a .0;
         two-bytes = as-words (h .0) a .1;
         few = laid-few a;
-        same = laid-encoded bytes (h .0) (h .1);
+        same = as-encoded (h .0) a;
       },
   λ e. subst (λ (l : List ℕ). Bytes l × LaidOut l) (sym (e .same)) (table-bytes (e .variables) (e .listed) (e .one-byte) (e .two-bytes) (e .few), ap isFault (encoded-laid (e .variables) (e .listed) (e .few))),
 )

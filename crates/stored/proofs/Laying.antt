@@ -16,13 +16,12 @@ use Rattle.table.specs.Flags.{maxPoints}
 use Rattle.records.specs.declared.Kind.{Kind}
 use Rattle.records.specs.declared.Kind.the-variants.{Variables, Product, Factor, End, On, Free, Unknown}
 use Rattle.records.specs.declared.Body.the-variants.{Length}
-use Rattle.records.specs.Kinds.{kindOf, bodyOf, wordOf, onKind}
-use Rattle.records.proofs.KindBytes.{StandsFor, stands}
+use Rattle.records.specs.Kinds.{kindOf, wordOf, onKind}
+use Rattle.records.proofs.KindBytes.{kind-byte}
 use Rattle.stored.specs.declared.Walk.{Walk}
 use Rattle.stored.specs.declared.Walk.the-variants.{Laid, WrongKind, Missing, WrongCount, After}
-use Rattle.stored.specs.declared.Step.{Step}
-use Rattle.stored.specs.declared.Step.the-variants.{Whole, Stop}
-use Rattle.stored.specs.Layout.{bodyStep, afterEnd, endStep, firstStep, laterStep, recordStep, goOn, walkFrom, walked, longestTable}
+use Rattle.stored.specs.declared.Step.the-variants.{Stop}
+use Rattle.stored.specs.Layout.{bodyStep, afterEnd, firstStep, laterStep, recordStep, goOn, walkFrom, walked, longestTable}
 use Rattle.stored.specs.Marks.{Mark, mark, noMark, recordMarks, marks, storedPoints}
 use Rattle.stored.specs.Stored.{isFault, LaidOut}
 
@@ -191,8 +190,8 @@ mark-later k bytes place =
     cc (getD-drop k bytes place 0, getD-drop k bytes (place + 1) 0, getD-drop k bytes (place + 2) 0)
 
 kind-on : (byte : ℕ) (isOn : Bool) → kindOf byte ≡ pointKind isOn → eqb byte onKind ≡ isOn
-kind-on byte true q = eq-eqb byte onKind (subst (λ (k : Kind). StandsFor k byte) q (stands byte))
-kind-on byte false q = ap (λ (b : ℕ). eqb b onKind) (subst (λ (k : Kind). StandsFor k byte) q (stands byte))
+kind-on byte true q = eq-eqb byte onKind (kind-byte byte q)
+kind-on byte false q = ap (λ (b : ℕ). eqb b onKind) (kind-byte byte q)
 
 laying-at : {rest : List ℕ} {place count all : ℕ} → Laying rest place count all → (i : ℕ) → i < length (recordMarks rest) → getD (recordMarks rest) i noMark ≡ markAt rest (3 * i)
 laying-at (end {byte} {low} {high} o q w a) i h = absurd (omega (arith, ap length (marks-end byte low high q)))
@@ -230,6 +229,7 @@ too-long bytes h = go (isFault (walked bytes)) refl
     go true e = e
     go false e = let a = laid-as bytes e in absurd (omega (arith, laid-length a, laid-few a))
 
+-- The bytes of a table that is laid out: how many, and what the records of points among them stand for.
 pub table-length : (bytes : List ℕ) → LaidOut bytes → length bytes ≡ 5 + 3 * length (marks bytes)
 table-length bytes h = laid-length (laid-as bytes h)
 

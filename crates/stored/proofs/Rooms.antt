@@ -1,8 +1,8 @@
 -- Laws of specs.Reading: the room is tested last, and a table that is read has no fault and fits.
 use mathlib.Core.Path.{_≡_, refl, sym, _∙_}
 use mathlib.Core.Bool.{Bool, true, false, cond, _||_}
-use mathlib.Core.Logic.{_≢_, inl, inr}
-use mathlib.Core.List.{List, [], _∷_, _++_}
+use mathlib.Core.Logic.{_≢_}
+use mathlib.Core.List.{List, [], _∷_}
 use Prim.Native.Nat.{ℕ, _≤_}
 use native.Mathlib.Decide.{ℕ-discrete}
 use native.Mathlib.Omega.{arith}
@@ -12,13 +12,12 @@ use borrow.Author.Tests.{ltb-false}
 use Rattle.gf2.specs.Finite.{holds}
 use Rattle.gf2.proofs.Logic.{or-none}
 use Rattle.table.specs.Refusal.{Test, Numbered, test, firstFault, roomFault}
-use Rattle.table.proofs.Refusal.{no-fault, numbered, fault-append, fault-before}
-use Rattle.stored.specs.declared.TableRead.{TableRead}
+use Rattle.table.specs.Decision.{front}
+use Rattle.table.proofs.Refusal.{numbered, fault-append, fault-before}
+use Rattle.table.proofs.Decide.{decide-accepted, decide-refused}
 use Rattle.stored.specs.Marks.{storedOn, storedFree}
 use Rattle.stored.specs.Stored.{storedTests, storedFault}
 use Rattle.stored.specs.Reading.{readTests, readFault, refusedRead, acceptedRead, readAnswer, onAfter, freeAfter}
-use Rattle.table.specs.Decision.{front}
-use Rattle.table.proofs.Decide.{decide-accepted, decide-refused}
 use Rattle.stored.proofs.Accepting.{stored-numbered}
 
 pub read-numbered : (bytes : List ℕ) (on free : ℕ) → Numbered (readTests bytes on free)

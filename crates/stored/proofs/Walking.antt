@@ -1,5 +1,5 @@
 -- Laws of specs.Layout: what a whole record says of the bytes that are left.
-use mathlib.Core.Path.{_≡_, refl, sym, ap, _∙_, subst}
+use mathlib.Core.Path.{_≡_, refl, ap, _∙_, subst}
 use mathlib.Core.Bool.{Bool, true, false, cond}
 use mathlib.Core.List.{List, [], _∷_}
 use Prim.Native.Nat.{ℕ, zero, suc, _≤_, _<_, _+_}
@@ -16,7 +16,7 @@ use Rattle.records.specs.declared.Body.{Body}
 use Rattle.records.specs.declared.Body.the-variants.{Length, Unknown as NoLength}
 use Rattle.records.specs.Kinds.{kindOf, bodyOf}
 use Rattle.stored.specs.declared.Walk.{Walk}
-use Rattle.stored.specs.declared.Walk.the-variants.{Laid, WrongKind, Missing, WrongCount, After}
+use Rattle.stored.specs.declared.Walk.the-variants.{WrongKind, Missing, After}
 use Rattle.stored.specs.declared.Step.{Step}
 use Rattle.stored.specs.declared.Step.the-variants.{Whole, Stop}
 use Rattle.stored.specs.Layout.{bodyStep, endStep, firstStep, laterStep, recordStep, walkFrom, walked, longestTable}

@@ -1,6 +1,5 @@
 -- The bytes of a stored table (document 01, "The written form"). That a list of bytes is laid out as a table exactly if it is one of these
--- is `laid-exactly`.
--- Read next: Stored.
+-- is `laid-exactly`. Read next: Stored.
 use mathlib.Core.Path.{_≡_}
 use mathlib.Core.Bool.{Bool, true, false}
 use mathlib.Core.List.{List, [], _∷_, _++_}

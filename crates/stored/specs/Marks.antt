@@ -13,6 +13,7 @@ pub record Mark : Type 0 where
   pub isOn : Bool
   pub point : ℕ
 
+-- A mark from its parts.
 abbrev pub mark : Bool → ℕ → Mark
 mark isOn point = record { isOn = isOn; point = point }
 
@@ -50,10 +51,11 @@ unfoldable pub pointsOf : Bool → List Mark → List ℕ
 pointsOf isOn [] = []
 pointsOf isOn (m ∷ rest) = cond (Bool·beq isOn (m .isOn)) (m .point ∷ pointsOf isOn rest) (pointsOf isOn rest)
 
--- The points of all records as one list, and the lists of on and of free points.
+-- The points of all records as one list.
 abbrev pub storedPoints : List ℕ → List ℕ
 storedPoints bytes = map (λ m. m .point) (marks bytes)
 
+-- The list of on points, and the list of free points.
 abbrev pub storedOn : List ℕ → List ℕ
 storedOn bytes = pointsOf true (marks bytes)
 

@@ -23,6 +23,7 @@ readFault bytes onRoom freeRoom = firstFault (readTests bytes onRoom freeRoom)
 abbrev pub refusedRead : ℕ → TableRead
 refusedRead fault = record { refusal = fault; variables = 0; «on_count» = 0; «free_count» = 0 }
 
+-- An accepted table returns n and the lengths of both lists.
 abbrev pub acceptedRead : List ℕ → TableRead
 acceptedRead bytes =
     record { refusal = 0; variables = storedVariables bytes; «on_count» = length (storedOn bytes); «free_count» = length (storedFree bytes) }

@@ -26,6 +26,7 @@ LaidOut bytes = isFault (walked bytes) ≡ false
 abbrev pub layoutTests : Walk → List Test
 layoutTests found = test layoutFault (isFault found) ∷ []
 
+-- The refusal of what the walk found, or 0.
 unfoldable pub layoutOf : Walk → ℕ
 layoutOf found = firstFault (layoutTests found)
 

@@ -2,11 +2,11 @@
 // Read next: specs/Layout.antt.
 ghost use mathlib.Core.Path.{_≡_};
 ghost use mathlib.Core.Bool.{Bool·beq};
-ghost use mathlib.Core.List.{_++_};
 ghost use Prim.Native.Nat.{_+_, _≤_, _<_};
 ghost use lib.ListN.{length, getD, drop};
 ghost use Rattle.records.specs.Kinds.{bodyOf, kindOf};
 ghost use Rattle.gf2.specs.Limits.{maxVariables};
+ghost use Rattle.table.specs.Decision.{front};
 ghost use Rattle.table.specs.Table.{outside, unordered};
 ghost use Rattle.stored.specs.Marks.{noMark, marks, pointsOf, storedPoints};
 ghost use Rattle.stored.specs.Reading.{readFault, readAnswer, onAfter, freeAfter};
@@ -33,9 +33,18 @@ pub enum Walk {
 }
 
 // What the walk finds at one record: a whole one, with the length of its body, or how the walk ends.
-pub enum Step {
+enum Step {
     Whole(usize),
     Stop(Walk),
+}
+
+// What reading gives: the refusal or 0, n, and how many on and free points there are.
+#[repr(C)]
+pub struct TableRead {
+    pub refusal: u8,
+    pub variables: usize,
+    pub on_count: usize,
+    pub free_count: usize,
 }
 
 // The body of the record at the place.
@@ -229,15 +238,6 @@ pub fn stored_fault(bytes: &[u8]) -> u8
     0
 }
 
-// What reading gives: the refusal or 0, n, and how many on and free points there are.
-#[repr(C)]
-pub struct TableRead {
-    pub refusal: u8,
-    pub variables: usize,
-    pub on_count: usize,
-    pub free_count: usize,
-}
-
 // A record, by its number, is of an on point if those are asked for, or else of a free point.
 fn is_marked(bytes: &[u8], i: usize, on: bool) -> bool
     requires { ⌜ LaidOut (now bytes) ⌝ }
@@ -270,7 +270,7 @@ fn write_points(bytes: &[u8], on: bool, room: &mut [u16]) -> usize
     requires { ⌜ LaidOut (now bytes) ⌝ }
     requires { ⌜ length (pointsOf on (marks (now bytes))) ≤ length (now room) ⌝ }
     ensures { λ r. ⌜ r ≡ length (pointsOf on (marks (now (bytes .entry)))) ⌝ }
-    ensures { λ r. ⌜ now (room .exit) ≡ pointsOf on (marks (now (bytes .entry))) ++ drop (length (pointsOf on (marks (now (bytes .entry))))) (now (room .entry)) ⌝ }
+    ensures { λ r. ⌜ now (room .exit) ≡ front (pointsOf on (marks (now (bytes .entry)))) (now (room .entry)) ⌝ }
 {
     let count = record_count(bytes);
     let mut at = 0;
@@ -322,7 +322,7 @@ pub fn read_table(bytes: &[u8], on: &mut [u16], free: &mut [u16]) -> TableRead
     TableRead {
         refusal: 0,
         variables: bytes[1] as usize,
-        on_count: on_count,
-        free_count: free_count,
+        on_count,
+        free_count,
     }
 }

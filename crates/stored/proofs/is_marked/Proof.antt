@@ -1,5 +1,5 @@
 -- `stored::is_marked` meets its contract: the record stands inside the bytes, and its kind says whether it is on. Assumes nothing.
-use mathlib.Core.Path.{_≡_, sym, ap}
+use mathlib.Core.Path.{sym, ap}
 use mathlib.Core.Bool.{Bool·beq}
 use Prim.Native.Nat.{_≤_, _+_, _*_}
 use native.Mathlib.Omega.{arith}

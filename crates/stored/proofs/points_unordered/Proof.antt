@@ -1,11 +1,9 @@
 -- `stored::points_unordered` meets its contract. The loop's invariant: the points from record i on decide the answer. Assumes nothing.
 use mathlib.Core.Path.{_≡_, refl, sym, _∙_}
-use mathlib.Core.Bool.{true, false}
 use Prim.Native.Nat.{_≤_, _<_, _+_, _-_}
 use native.Mathlib.Omega.{arith}
 use borrow.Author.Needs.{needs}
 use borrow.Author.Tests.{le-leb, lt-leb}
-use lib.Dec.{leb}
 use lib.ListN.{length, drop, getD, length-map}
 use Rattle.table.specs.Table.{unordered}
 use Rattle.table.proofs.Table.{unordered-next, unordered-last}

@@ -1,7 +1,6 @@
 -- `stored::stored_fault` meets its contract: at each return the tests up to it are known, and the list of tests computes. Assumes nothing.
 use mathlib.Core.Path.{_≡_, sym, ap, _∙_}
 use mathlib.Core.Bool.{Bool}
-use Prim.Native.Nat.{_≤_}
 use native.Mathlib.Omega.{arith}
 use borrow.Author.Needs.{needs}
 use Rattle.table.specs.Refusal.{firstFault}

@@ -1,13 +1,11 @@
 -- `stored::write_points` meets its contract. The loop's invariant: the points of the records passed are written. Assumes nothing.
-use mathlib.Core.Path.{_≡_, refl, sym, ap, _∙_, subst}
-use mathlib.Core.List.{List}
+use mathlib.Core.Path.{_≡_, sym, _∙_}
 use mathlib.Core.Logic.{⊎-elim}
-use Prim.Native.Nat.{ℕ, _≤_, _<_, _+_, _-_}
+use Prim.Native.Nat.{_≤_, _<_, _-_}
 use native.Mathlib.Omega.{arith}
 use borrow.Author.Needs.{needs}
-use lib.ListN.{length, getD, set, List·getD-map}
+use lib.ListN.{length, List·getD-map}
 use Rattle.stored.specs.Marks.{Mark, noMark, marks}
-use Rattle.stored.proofs.Laying.{table-length}
 use Rattle.stored.proofs.Points.{Written, none-written, all-written, room-left, written-more, written-same}
 use Rattle.stored.proofs.write_points.Statement.{statement}
 use Rattle.stored.proofs.write_points.Tie as tie
