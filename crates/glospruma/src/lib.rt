@@ -4,10 +4,13 @@
 ghost use mathlib.Core.Path.{_≡_};
 ghost use lib.ListN.{length};
 ghost use Rattle.stored.specs.Reading.{readAnswer, onAfter, freeAfter};
+ghost use Rattle.form.specs.Reading.{pointsAnswer, pointsAfter, rewriteAnswer, rewriteAfter};
 ghost use Rattle.glospruma.specs.Spaces.{linearSpaceAnswer, completeRefused, completeAnswer, completeRoom, analyseRefused, analyseAnswer, analyseRoom};
 ghost use Rattle.glospruma.specs.Affine.{affineRefused, affineAnswer, affineRoom};
 use basis::Basis;
 use basis::ShortList;
+use form::FormPoints;
+use form::FormRewrite;
 use stored::TableRead;
 use table::AFFINE_FAULT;
 use table::ROOM_FAULT;
@@ -218,4 +221,22 @@ pub extern "C" fn glospruma_affine(n: usize, on: &[u16], room: &mut [u16]) -> Af
         basis,
         count,
     }
+}
+
+// The points of a form, rising, at the front of the room. Refusals 8, then 7.
+#[no_mangle]
+pub extern "C" fn glospruma_form_points(bytes: &[u8], room: &mut [u16]) -> FormPoints
+    ensures { λ r. ⌜ r ≡ pointsAnswer (now (bytes .entry)) (now (room .entry)) ⌝ }
+    ensures { λ r. ⌜ now (room .exit) ≡ pointsAfter (now (bytes .entry)) (now (room .entry)) ⌝ }
+{
+    form::form_points(bytes, &mut *room)
+}
+
+// A form read and written again, at the front of the room: the same bytes. Refusals 8, then 7.
+#[no_mangle]
+pub extern "C" fn glospruma_form_rewrite(bytes: &[u8], room: &mut [u8]) -> FormRewrite
+    ensures { λ r. ⌜ r ≡ rewriteAnswer (now (bytes .entry)) (now (room .entry)) ⌝ }
+    ensures { λ r. ⌜ now (room .exit) ≡ rewriteAfter (now (bytes .entry)) (now (room .entry)) ⌝ }
+{
+    form::form_rewrite(bytes, &mut *room)
 }

@@ -27,7 +27,7 @@ use Rattle.space.proofs.Restriction.{project-below}
 use Rattle.space.proofs.Affine.{directions-reduced, directions-below}
 use Rattle.space.proofs.Steps.{directions-all, leastPoint-is}
 use Rattle.projection.specs.Masks.{differences}
-use Rattle.projection.proofs.Fill.{fill-push, fill-length}
+use Rattle.table.proofs.Fill.{fill-push, fill-length}
 
 -- ---- bits
 

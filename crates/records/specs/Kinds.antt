@@ -1,8 +1,10 @@
 -- The kinds of records, the length of the body that each fixes, and numbers of two bytes (document 01, "The written form").
 -- Read next: crate `stored`, which reads a stored table.
 use mathlib.Core.Bool.{cond}
-use Prim.Native.Nat.{ℕ, _+_, _*_, _/_, _%_}
+use mathlib.Core.List.{List, [], _∷_}
+use Prim.Native.Nat.{ℕ, _+_, _*_, _/_, _%_, _<_}
 use lib.Dec.{eqb}
+use Rattle.gf2.specs.Finite.{Mem}
 use Rattle.records.specs.declared.Kind.{Kind}
 use Rattle.records.specs.declared.Kind.the-variants.{Variables, Product, Factor, End, On, Free, Unknown}
 use Rattle.records.specs.declared.Body.{Body}
@@ -57,3 +59,11 @@ lowByte word = word % 256
 
 abbrev pub highByte : ℕ → ℕ
 highByte word = word / 256
+
+-- A list of bytes.
+abbrev pub Bytes : List ℕ → Type 0
+Bytes bytes = (byte : ℕ) → Mem byte bytes → byte < 256
+
+-- The end record with the number of points of a table, or of products of a form.
+abbrev pub encodeEnd : ℕ → List ℕ
+encodeEnd count = endKind ∷ lowByte count ∷ highByte count ∷ []

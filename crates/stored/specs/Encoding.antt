@@ -6,13 +6,9 @@ use mathlib.Core.List.{List, [], _∷_, _++_}
 use Prim.Native.Nat.{ℕ, _≤_, _<_}
 use lib.ListN.{length}
 use Rattle.gf2.specs.Finite.{Mem}
-use Rattle.records.specs.Kinds.{variablesKind, endKind, onKind, freeKind, lowByte, highByte}
+use Rattle.records.specs.Kinds.{variablesKind, onKind, freeKind, lowByte, highByte, encodeEnd}
 use Rattle.table.specs.Flags.{maxPoints}
 use Rattle.stored.specs.Marks.{Mark}
-
--- A list of bytes.
-abbrev pub Bytes : List ℕ → Type 0
-Bytes bytes = (byte : ℕ) → Mem byte bytes → byte < 256
 
 -- The kind byte of a mark.
 abbrev pub markKind : Bool → ℕ
@@ -23,10 +19,6 @@ markKind false = freeKind
 unfoldable pub encodeMarks : List Mark → List ℕ
 encodeMarks [] = []
 encodeMarks (m ∷ rest) = markKind (m .isOn) ∷ lowByte (m .point) ∷ highByte (m .point) ∷ encodeMarks rest
-
--- The end record with the number of points.
-abbrev pub encodeEnd : ℕ → List ℕ
-encodeEnd count = endKind ∷ lowByte count ∷ highByte count ∷ []
 
 -- A stored table: 4E and n, a record for each mark, 45 and their number.
 unfoldable pub encodeTable : ℕ → List Mark → List ℕ

@@ -1,4 +1,4 @@
--- Laws of one decision over a list of tests: what is given where none applies, where an early one does, and where only the last does. Read next: Table.
+-- Laws of one decision over a list of tests: what is given where none applies, where an early one does, and where only the last does. Read next: Fill.
 use mathlib.Core.Path.{_≡_, refl, sym, ap, _∙_}
 use mathlib.Core.Bool.{true, false, cond}
 use mathlib.Core.Logic.{_≢_}

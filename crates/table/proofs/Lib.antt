@@ -3,5 +3,6 @@
 -- `on-flags`, `free-flags` (Table), `marked-at`, `flags-at` (Flags).
 pub mod Refusal
 pub mod Decide
+pub mod Fill
 pub mod Table
 pub mod Flags

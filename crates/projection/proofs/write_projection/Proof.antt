@@ -8,7 +8,7 @@ use lib.ListN.{length, take, set, getD, List·getD-map}
 use Rattle.table.specs.Decision.{front}
 use Rattle.space.specs.Restriction.{project}
 use Rattle.projection.specs.Masks.{placesSet, projected}
-use Rattle.projection.proofs.Fill.{fill-next, fill-part, fill-all}
+use Rattle.table.proofs.Fill.{fill-next, fill-part, fill-all}
 use Rattle.projection.proofs.Masks.{projected-length}
 use Rattle.projection.proofs.write_projection.Statement.{statement}
 use Rattle.projection.proofs.write_projection.Tie as tie

@@ -1,5 +1,5 @@
 -- Lent room filled from the front, one element at each turn of a loop, for any kind of element. Every function that writes a list cites these.
--- Read next: Masks.
+-- Read next: Table.
 use mathlib.Core.Path.{_≡_, sym, ap, _∙_, subst}
 use mathlib.Core.List.{List, [], _∷_, _++_}
 use Prim.Native.Nat.{ℕ, suc, _+_, _≤_, _<_}

@@ -1,0 +1,266 @@
+-- Laws of specs.Walk and specs.Counting: what a whole record says of the bytes that are left, and the walk as the loop meets it, a record
+-- more at a time. Read next: Laying.
+use mathlib.Core.Path.{_≡_, refl, sym, ap, _∙_, subst}
+use mathlib.Core.Bool.{Bool, true, false, cond, _&&_}
+use mathlib.Core.List.{List, [], _∷_, _++_}
+use mathlib.Core.Logic.{inl, inr}
+use Prim.Native.Nat.{ℕ, zero, suc, _≤_, _<_, _+_, _-_}
+use native.Mathlib.Nat.{le-of-suc-le-suc, not-suc-le-zero}
+use native.Mathlib.Numerals.{add-one}
+use native.Mathlib.Omega.{arith}
+use lib.Dec.{leb, ltb, eqb}
+use borrow.Author.Tests.{leb-true, ltb-true}
+use lib.ListN.{length, drop, getD, length-drop}
+use lib.Seq.{drop-cons, drop-drop, getD-drop}
+use Rattle.gf2.proofs.Logic.{and-true}
+use Rattle.gf2.proofs.Finite.{mem-snoc, snoc-mem}
+use Rattle.records.specs.declared.Kind.{Kind}
+use Rattle.records.specs.declared.Kind.the-variants.{Variables, Product, Factor as FactorKind, End, On, Free, Unknown}
+use Rattle.records.specs.declared.Body.{Body}
+use Rattle.records.specs.declared.Body.the-variants.{Length, Unknown as NoLength}
+use Rattle.records.specs.Kinds.{kindOf, bodyOf}
+use Rattle.table.specs.Table.{badCount}
+use Rattle.product.specs.Product.{Factor, factor, AllFit, fits, apartMasks, apart, agrees}
+use Rattle.product.proofs.Product.{fits-is}
+use Rattle.form.specs.declared.FormWalk.{FormWalk}
+use Rattle.form.specs.declared.FormWalk.the-variants.{WrongKind, Missing, WrongVariables, WrongFactor, NotCanonical, TooMany}
+use Rattle.form.specs.declared.Step.{Step}
+use Rattle.form.specs.declared.Step.the-variants.{Whole, Stop}
+use Rattle.form.specs.declared.Counts.{Counts}
+use Rattle.form.specs.Form.{maxProducts}
+use Rattle.form.specs.Decoding.{factorOf}
+use Rattle.form.specs.Walk.{bodyStep, variablesStep, firstStep, productStep, judgeStep, factorStep, endStep, Behind, behind, recordStep, passed, walkFrom, walkedForm}
+use Rattle.form.specs.Counting.{factorLength, factorsBefore, behindBy, countsAfter, Counted}
+
+-- A whole record is not the end of the walk.
+pub not-whole : {A : Type 0} {w : FormWalk} {l : ℕ} → Stop w ≡ Whole l → A
+not-whole p = let z : _≡_ {A = ℕ} 0 1 = cc in absurd (omega arith)
+
+-- A test in front of a step that ends the walk passed.
+pub passed-test : {l : ℕ} (t : Bool) (s : Step) (w : FormWalk) → cond t s (Stop w) ≡ Whole l → (t ≡ true) × (s ≡ Whole l)
+passed-test true s w e = (refl, e)
+passed-test false s w e = not-whole e
+
+pub failed-test : {l : ℕ} (t : Bool) (s : Step) (w : FormWalk) → cond t (Stop w) s ≡ Whole l → (t ≡ false) × (s ≡ Whole l)
+failed-test true s w e = not-whole e
+failed-test false s w e = (refl, e)
+
+-- A body that is whole has the length that its kind fixes, and that many bytes are there.
+pub body-whole : (b : Body) (place : ℕ) (rest : List ℕ) (l : ℕ) → bodyStep b place rest ≡ Whole l → (b ≡ Length l) × (l ≤ length rest)
+body-whole NoLength place rest l e = not-whole e
+body-whole (Length m) place rest l e =
+    let h = passed-test (leb m (length rest)) (Whole m) (Missing (place + 1 + length rest)) e in
+    let same : m ≡ l = cc (h .1) in
+    (ap Length same, subst (λ (k : ℕ). k ≤ length rest) same (leb-true m (length rest) (h .0)))
+
+-- A body that is whole has a given length.
+pub body-length : (m place : ℕ) (rest : List ℕ) (l : ℕ) → bodyStep (Length m) place rest ≡ Whole l → (l ≡ m) × (m ≤ length rest)
+body-length m place rest l e =
+    let h = body-whole (Length m) place rest l e in
+    let same : l ≡ m = cc (h .0) in
+    (same, subst (λ (k : ℕ). k ≤ length rest) same (h .1))
+
+-- ---- each record, once it is whole
+
+-- The first: its body is one byte, and n is that of a table.
+pub first-whole : (k : Kind) (rest : List ℕ) (l : ℕ) → firstStep k rest ≡ Whole l → (l ≡ 1) × (1 ≤ length rest) × (badCount (getD rest 0 0) ≡ false) × (k ≡ Variables)
+first-whole Variables rest l e = go (bodyStep (bodyOf Variables) 0 rest) refl e
+  where
+    go : (s : Step) → bodyStep (bodyOf Variables) 0 rest ≡ s → variablesStep s rest ≡ Whole l
+        → (l ≡ 1) × (1 ≤ length rest) × (badCount (getD rest 0 0) ≡ false) × (Variables ≡ Variables)
+    go (Stop fault) p q = not-whole q
+    go (Whole m) p q =
+        let h = failed-test (badCount (getD rest 0 0)) (Whole m) (WrongVariables 1) q in
+        let b = body-length 1 0 rest m p in
+        let same : l ≡ m = cc (h .1) in
+        (same ∙ b .0, b .1, h .0, refl)
+first-whole Product rest l e = not-whole e
+first-whole FactorKind rest l e = not-whole e
+first-whole End rest l e = not-whole e
+first-whole On rest l e = not-whole e
+first-whole Free rest l e = not-whole e
+first-whole Unknown rest l e = not-whole e
+
+-- A product: it has no body, and there are not too many.
+pub product-whole : (products place : ℕ) (rest : List ℕ) (l : ℕ) → productStep products place rest ≡ Whole l → (l ≡ 0) × (products < maxProducts)
+product-whole products place rest l e =
+    let h = passed-test (ltb products maxProducts) (bodyStep (bodyOf Product) place rest) (TooMany place) e in
+    (body-length 0 place rest l (h .1) .0, ltb-true products maxProducts (h .0))
+
+-- A factor: a product has begun, its body is three bytes, it fits and agrees.
+pub record WholeFactor (n products : ℕ) (earlier : List Factor) (rest : List ℕ) (l : ℕ) : Type 0 where
+  pub long : l ≡ 3
+  pub there : 3 ≤ length rest
+  pub inside : eqb products 0 ≡ false
+  pub fitting : fits n (factorOf rest) ≡ true
+  pub agreeing : agrees earlier (factorOf rest) ≡ true
+
+pub factor-whole : (n products : ℕ) (earlier : List Factor) (place : ℕ) (rest : List ℕ) (l : ℕ) → factorStep n products earlier place rest ≡ Whole l → WholeFactor n products earlier rest l
+factor-whole n products earlier place rest l e =
+    let h = failed-test (eqb products 0) (judgeStep (bodyStep (bodyOf FactorKind) place rest) n earlier place (factorOf rest)) (WrongKind place) e in
+    go (h .0) (bodyStep (bodyOf FactorKind) place rest) refl (h .1)
+  where
+    go : eqb products 0 ≡ false → (s : Step) → bodyStep (bodyOf FactorKind) place rest ≡ s → judgeStep s n earlier place (factorOf rest) ≡ Whole l → WholeFactor n products earlier rest l
+    go i (Stop fault) p q = not-whole q
+    go i (Whole m) p q =
+        let f = passed-test (fits n (factorOf rest)) (cond (agrees earlier (factorOf rest)) (Whole m) (Stop (NotCanonical (place + 1)))) (WrongFactor (place + 1)) q in
+        let a = passed-test (agrees earlier (factorOf rest)) (Whole m) (NotCanonical (place + 1)) (f .1) in
+        let b = body-length 3 place rest m p in
+        let same : l ≡ m = cc (a .1) in
+        record { long = same ∙ b .0; there = b .1; inside = i; fitting = f .0; agreeing = a .0 }
+
+-- The end is never passed.
+pub end-whole : {A : Type 0} (s : Step) (products place : ℕ) (rest : List ℕ) (l : ℕ) → endStep s products place rest ≡ Whole l → A
+end-whole (Stop fault) products place rest l e = not-whole e
+end-whole (Whole m) products place rest l e = not-whole e
+
+-- Any record that is passed leaves its body behind.
+pub record-whole : (n : ℕ) (b : Behind) (k : Kind) (place : ℕ) (rest : List ℕ) (l : ℕ) → recordStep n b k place rest ≡ Whole l → l ≤ length rest
+record-whole n b Product place rest l e = let h = product-whole (b .products) place rest l e in omega (arith, h .0)
+record-whole n b FactorKind place rest l e = let h = factor-whole n (b .products) (b .factors) place rest l e in omega (arith, h .long, h .there)
+record-whole n b End place rest l e = end-whole (bodyStep (bodyOf End) place rest) (b .products) place rest l e
+record-whole n b Variables place rest l e = not-whole e
+record-whole n b On place rest l e = not-whole e
+record-whole n b Free place rest l e = not-whole e
+record-whole n b Unknown place rest l e = not-whole e
+
+-- The factor whose record begins at a place: its constant is the first byte of its body.
+pub factor-read : (bytes : List ℕ) (place : ℕ) → factor (getD bytes (place + 1) 0) (factorOf (drop (place + 1) bytes) .mask) ≡ factorOf (drop (place + 1) bytes)
+factor-read bytes place =
+    let same : place + 1 + 0 ≡ place + 1 = omega arith in
+    ap (λ (constant : ℕ). factor constant (factorOf (drop (place + 1) bytes) .mask)) (sym (getD-drop (place + 1) bytes 0 0 ∙ ap (λ (p : ℕ). getD bytes p 0) same))
+
+-- ---- the walk, a record more
+
+-- A body that is there is passed.
+pub pass : (n skip : ℕ) (b : Behind) (place : ℕ) (rest : List ℕ) → skip ≤ length rest → walkFrom n skip b place rest ≡ walkFrom n 0 b (place + skip) (drop skip rest)
+unfolding walkFrom
+pass n zero b place rest h = let e : place ≡ place + 0 = omega arith in ap (λ (p : ℕ). walkFrom n 0 b p rest) e
+pass n (suc k) b place [] h = absurd (not-suc-le-zero h)
+pass n (suc k) b place (c ∷ rest) h =
+    let e : place + 1 + k ≡ place + suc k = omega arith in
+    pass n k b (place + 1) rest (le-of-suc-le-suc h) ∙ ap (λ (p : ℕ). walkFrom n 0 b p (drop k rest)) e
+
+-- The walk at a place of the bytes where a record begins: it ends there, or goes on after the record.
+module _ (n : ℕ) (s : List ℕ) (b : Behind) (place : ℕ) (h : place < length s) where
+  opened : drop place s ≡ getD s place 0 ∷ drop (place + 1) s
+  opened = rw (add-one, drop-cons s place 0)
+
+  pub walk-ends : (w : FormWalk) → recordStep n b (kindOf (getD s place 0)) place (drop (place + 1) s) ≡ Stop w → walkFrom n 0 b place (drop place s) ≡ w
+  unfolding walkFrom
+  walk-ends w e = rw (opened, e)
+
+  pub walk-goes : (l : ℕ) → recordStep n b (kindOf (getD s place 0)) place (drop (place + 1) s) ≡ Whole l
+      → walkFrom n 0 b place (drop place s) ≡ walkFrom n 0 (passed (kindOf (getD s place 0)) (drop (place + 1) s) b) (place + 1 + l) (drop (place + 1 + l) s)
+  unfolding walkFrom
+  walk-goes l e =
+      let after = passed (kindOf (getD s place 0)) (drop (place + 1) s) b in
+      let there = record-whole n b (kindOf (getD s place 0)) place (drop (place + 1) s) l e in
+      let on = pass n l after (place + 1) (drop (place + 1) s) there ∙ ap (walkFrom n 0 after (place + 1 + l)) (drop-drop l (place + 1) s) in
+      rw (opened, e) on
+
+-- The walk over a whole input: it ends at the first record, or goes on after it.
+pub walk-none : (s : List ℕ) → length s ≡ 0 → walkedForm s ≡ Missing 0
+unfolding walkedForm
+walk-none [] h = refl
+walk-none (c ∷ rest) h = absurd (omega arith)
+
+pub first-ends : (s : List ℕ) (w : FormWalk) → 0 < length s → firstStep (kindOf (getD s 0 0)) (drop 1 s) ≡ Stop w → walkedForm s ≡ w
+unfolding walkedForm
+first-ends [] w h e = absurd (not-suc-le-zero h)
+first-ends (c ∷ rest) w h e = rw e
+
+pub first-goes : (s : List ℕ) (l : ℕ) → 0 < length s → firstStep (kindOf (getD s 0 0)) (drop 1 s) ≡ Whole l
+    → walkedForm s ≡ walkFrom (getD s 1 0) 0 (behind 0 []) (1 + l) (drop (1 + l) s)
+unfolding walkedForm
+first-goes [] l h e = absurd (not-suc-le-zero h)
+first-goes (c ∷ rest) l h e =
+    let w = first-whole (kindOf c) rest l e in
+    let there : l ≤ length rest = omega (arith, w .0, w .1) in
+    rw e (pass (getD rest 0 0) l (behind 0 []) 1 rest there ∙ ap (walkFrom (getD rest 0 0) 0 (behind 0 []) (1 + l)) (drop-drop l 1 (c ∷ rest)))
+
+-- ---- the counts, a record more
+
+-- The factors before a place, one record more.
+pub factors-more : (k : ℕ) (bytes : List ℕ) (place : ℕ) → factorsBefore (suc k) bytes (place + factorLength) ≡ factorsBefore k bytes place ++ (factorOf (drop (place + 1) bytes) ∷ [])
+unfolding factorsBefore
+factors-more k bytes place =
+    let e : place + factorLength - factorLength ≡ place = omega arith in
+    rw e
+
+-- A record that is passed: the counts are again those of a walk, and say what lies behind it then.
+pub record Carried (n : ℕ) (bytes : List ℕ) (k : Kind) (counts : Counts) (place l : ℕ) : Type 0 where
+  pub counted : Counted n bytes (countsAfter k counts) (place + 1 + l)
+  pub behindThen : behindBy bytes (countsAfter k counts) (place + 1 + l) ≡ passed k (drop (place + 1) bytes) (behindBy bytes counts place)
+
+pub none-fit : (n : ℕ) (bytes : List ℕ) (place : ℕ) → AllFit n (factorsBefore 0 bytes place)
+unfolding factorsBefore
+none-fit n bytes place f m = absurd m
+
+no-factors : (bytes : List ℕ) (place : ℕ) → factorsBefore 0 bytes place ≡ []
+unfolding factorsBefore
+no-factors bytes place = refl
+
+module _ (n : ℕ) (bytes : List ℕ) (counts : Counts) (place : ℕ) (c : Counted n bytes counts place) (h : place < length bytes) where
+  pub carried : (k : Kind) (l : ℕ) → recordStep n (behindBy bytes counts place) k place (drop (place + 1) bytes) ≡ Whole l → Carried n bytes k counts place l
+  carried Product l e =
+      let w = product-whole (counts .products) place (drop (place + 1) bytes) l e in
+      record {
+        counted = record { few = c .few; within = omega (arith, w .0); begun = omega (arith, c .begun); room = omega arith; fitting = none-fit n bytes (place + 1 + l) };
+        behindThen = ap (behind (counts .products + 1)) (no-factors bytes (place + 1 + l));
+      }
+  carried FactorKind l e =
+      let w = factor-whole n (counts .products) (factorsBefore (counts .factors) bytes place) place (drop (place + 1) bytes) l e in
+      let next : place + 1 + l ≡ place + factorLength = omega (arith, w .long) in
+      let more : factorsBefore (counts .factors + 1) bytes (place + 1 + l) ≡ factorsBefore (counts .factors) bytes place ++ (factorOf (drop (place + 1) bytes) ∷ [])
+      = rw (next, add-one (counts .factors)) (factors-more (counts .factors) bytes place) in
+      record {
+        counted = record {
+          few = c .few;
+          within = omega (arith, w .long, w .there, length-drop (place + 1) bytes);
+          begun = omega (arith, c .begun);
+          room = omega (arith, w .long, c .room);
+          fitting = subst (AllFit n) (sym more)
+              (λ f m. elim (mem-snoc f (factorsBefore (counts .factors) bytes place) (factorOf (drop (place + 1) bytes)) m) [
+                | inl k ↦ c .fitting f k
+                | inr q ↦ rw q (fits-is n (factorOf (drop (place + 1) bytes)) .0 (w .fitting))
+              ]);
+        };
+        behindThen = ap (behind (counts .products)) more;
+      }
+  carried End l e = end-whole (bodyStep (bodyOf End) place (drop (place + 1) bytes)) (counts .products) place (drop (place + 1) bytes) l e
+  carried Variables l e = not-whole e
+  carried On l e = not-whole e
+  carried Free l e = not-whole e
+  carried Unknown l e = not-whole e
+
+-- ---- the factors before a place, from the last to the first
+
+agrees-snoc : (fs : List Factor) (f g : Factor) → agrees (fs ++ (f ∷ [])) g ≡ agrees fs g && apartMasks (f .mask) (g .mask)
+unfolding agrees apart
+agrees-snoc [] f g = and-true (apartMasks (f .mask) (g .mask))
+agrees-snoc (h ∷ fs) f g = rw (agrees-snoc fs f g) (sym (and-assoc (apartMasks (h .mask) (g .mask)) (agrees fs g) (apartMasks (f .mask) (g .mask))))
+  where
+    and-assoc : (a b c : Bool) → (a && b) && c ≡ a && (b && c)
+    and-assoc true b c = refl
+    and-assoc false b c = refl
+
+module _ (left : ℕ) (bytes : List ℕ) (at : ℕ) (h : 0 < left) where
+  factors-last : factorsBefore left bytes at ≡ factorsBefore (left - 1) bytes (at - factorLength) ++ (factorOf (drop (at - factorLength + 1) bytes) ∷ [])
+  unfolding factorsBefore
+  factors-last = let e : left ≡ suc (left - 1) = omega arith in subst (λ (k : ℕ). factorsBefore k bytes at ≡ factorsBefore (left - 1) bytes (at - factorLength) ++ (factorOf (drop (at - factorLength + 1) bytes) ∷ [])) (sym e) refl
+
+  -- The last of them fits, and so do the others.
+  pub last-fits : (n : ℕ) → AllFit n (factorsBefore left bytes at) → 0 < factorOf (drop (at - factorLength + 1) bytes) .mask
+  last-fits n a = a (factorOf (drop (at - factorLength + 1) bytes)) (rw factors-last (snoc-mem _ (factorsBefore (left - 1) bytes (at - factorLength)) _ (inr refl))) .some
+
+  pub others-fit : (n : ℕ) → AllFit n (factorsBefore left bytes at) → AllFit n (factorsBefore (left - 1) bytes (at - factorLength))
+  others-fit n a f m = a f (rw factors-last (snoc-mem f (factorsBefore (left - 1) bytes (at - factorLength)) _ (inl m)))
+
+  pub agrees-last : (g : Factor) → agrees (factorsBefore left bytes at) g
+      ≡ agrees (factorsBefore (left - 1) bytes (at - factorLength)) g && apartMasks (factorOf (drop (at - factorLength + 1) bytes) .mask) (g .mask)
+  agrees-last g = ap (λ (fs : List Factor). agrees fs g) factors-last ∙ agrees-snoc (factorsBefore (left - 1) bytes (at - factorLength)) (factorOf (drop (at - factorLength + 1) bytes)) g
+
+pub agrees-none : (bytes : List ℕ) (at : ℕ) (g : Factor) → agrees (factorsBefore 0 bytes at) g ≡ true
+unfolding factorsBefore agrees
+agrees-none bytes at g = refl

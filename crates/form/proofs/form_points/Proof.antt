@@ -1,0 +1,92 @@
+-- `form::form_points` meets its contract: the form's own refusal, then the room's, decide; the points below 2 ^ n are those of the form.
+-- Assumes nothing.
+use mathlib.Core.Path.{_≡_, sym, ap, _∙_}
+use mathlib.Core.List.{List}
+use Prim.Native.Nat.{ℕ}
+use native.Mathlib.Omega.{arith}
+use borrow.Author.Needs.{needs}
+use lib.ListN.{length}
+use Rattle.gf2.specs.Finite.{select}
+use Rattle.table.specs.Decision.{front}
+use Rattle.form.specs.Form.{formAt}
+use Rattle.form.specs.Decoding.{formVariables, decodeForm}
+use Rattle.form.specs.Reading.{IsForm, formFault, pointsOf}
+use Rattle.form.proofs.Answering.{no-refusal, form-begins, points-below, points-refused, points-short, points-accepted}
+use Rattle.form.proofs.form_points.Statement.{statement}
+use Rattle.form.proofs.form_points.Tie as tie
+
+form-fault-requires : tie.Need-form-fault-requires
+form-fault-requires c κs = search needs
+
+returns : tie.Need-returns
+returns c =
+    let a = c .before .before .before .before .args in
+    points-refused (a .bytes .now) (a .room .now) (c .before .form-fault .result) (c .before .form-fault .ensures) (c .if1 .taken)
+
+-- Past the first test the bytes are a form.
+sound : (c : tie.Else1) → formFault (c .before .before .before .before .args .bytes .now) ≡ 0
+sound c = sym (c .before .form-fault .ensures) ∙ c .if1 .left
+
+accepted : (c : tie.Else1) → IsForm (c .before .before .before .before .args .bytes .now)
+accepted c = no-refusal (c .before .before .before .before .args .bytes .now) (sound c)
+
+shared-slice-read-n : tie.Need-shared-slice-read-n
+shared-slice-read-n c = form-begins (c .before .before .before .before .before .args .bytes .now) (accepted (c .before)) .0
+
+cast-n : tie.Need-cast-n
+cast-n c = omega (arith, form-begins (c .before .before .before .before .before .args .bytes .now) (accepted (c .before)) .1)
+
+point-count-requires : tie.Need-point-count-requires
+point-count-requires c κs = form-begins (c .before .before .before .before .before .args .bytes .now) (accepted (c .before)) .1
+
+count-points-requires : tie.Need-count-points-requires
+count-points-requires c κs = accepted (c .before .before)
+
+-- The points below the bound that the code takes are all of them, and the count is theirs.
+points : (c : tie.After-point-count)
+    → select (formAt (decodeForm (c .before .before .before .before .before .before .args .bytes .now))) (c .point-count .result) ≡ pointsOf (c .before .before .before .before .before .before .args .bytes .now)
+points c = points-below (c .before .before .before .before .before .before .args .bytes .now) (c .point-count .ensures)
+
+counted : (c : tie.After-count-points) → c .count-points .result ≡ length (pointsOf (c .before .before .before .before .before .before .before .args .bytes .now))
+counted c = c .count-points .ensures ∙ ap length (points (c .before))
+
+returns-2 : tie.Need-returns-2
+returns-2 c =
+    let n = c .before in
+    let e = n .before .before .before in
+    let a = e .before .before .before .before .args in
+    points-short (a .bytes .now) (a .room .now) (sound e) (omega (arith, counted n))
+
+write-points-requires : tie.Need-write-points-requires
+write-points-requires c κs =
+    let n = c .before .before in
+    (accepted (n .before .before .before), omega (arith, n .count-points .ensures, c .before .if2 .left))
+
+same-length : tie.Need-same-length
+same-length c = search needs
+
+returns-3 : tie.Need-returns-3
+returns-3 c =
+    let w = c .before .before in
+    let n = w .before .before .before in
+    let e = n .before .before .before in
+    let a = e .before .before .before .before .args in
+    let answer = points-accepted (a .bytes .now) (a .room .now) (sound e) (omega (arith, counted n, w .before .before .if2 .left)) in (
+      ap (λ (k : ℕ). record { refusal = 0; variables = formVariables (a .bytes .now); count = k }) (counted n) ∙ answer .0,
+      w .write-points .ensures ∙ ap (λ (l : List ℕ). front l (a .room .now)) (points (n .before)) ∙ answer .1,
+    )
+
+pub form-points-spec : {M : Type 1} → statement M
+form-points-spec =
+    tie.close
+    (tie.spec
+    form-fault-requires
+    returns
+    shared-slice-read-n
+    cast-n
+    point-count-requires
+    count-points-requires
+    returns-2
+    write-points-requires
+    same-length
+    returns-3)

@@ -1,0 +1,58 @@
+-- `form::form_rewrite` meets its contract: the form's own refusal, then the room's, decide; what was read is written as the bytes that were
+-- read. Assumes nothing.
+use mathlib.Core.Path.{_≡_, sym, ap, _∙_}
+use mathlib.Core.List.{List}
+use Prim.Native.Nat.{ℕ}
+use native.Mathlib.Omega.{arith}
+use borrow.Author.Needs.{needs}
+use lib.ListN.{length}
+use Rattle.table.specs.Decision.{front}
+use Rattle.form.specs.Reading.{formFault, rewritten}
+use Rattle.form.proofs.Encodings.{rewritten-same}
+use Rattle.form.proofs.Answering.{no-refusal, slice-bytes, rewrite-refused, rewrite-short, rewrite-accepted}
+use Rattle.form.proofs.form_rewrite.Statement.{statement}
+use Rattle.form.proofs.form_rewrite.Tie as tie
+
+form-fault-requires : tie.Need-form-fault-requires
+form-fault-requires c κs = search needs
+
+returns : tie.Need-returns
+returns c =
+    let a = c .before .before .before .before .args in
+    rewrite-refused (a .bytes .now) (a .room .now) (c .before .form-fault .result) (c .before .form-fault .ensures) (c .if1 .taken)
+
+-- Past the first test the bytes are a form, and so what is written is what was read.
+sound : (c : tie.Else1) → formFault (c .before .before .before .before .args .bytes .now) ≡ 0
+sound c = sym (c .before .form-fault .ensures) ∙ c .if1 .left
+
+same : (c : tie.Else1) → rewritten (c .before .before .before .before .args .bytes .now) ≡ c .before .before .before .before .args .bytes .now
+same c =
+    let s = c .before .before .before .before .args .bytes .now in
+    rewritten-same s (slice-bytes s (λ i. omega (arith, c .before .before .before .shared-slice-known .given i))) (no-refusal s (sound c))
+
+returns-2 : tie.Need-returns-2
+returns-2 c =
+    let e = c .before in
+    let a = e .before .before .before .before .args in
+    rewrite-short (a .bytes .now) (a .room .now) (sound e) (omega (arith, ap length (same e)))
+
+copy-bytes-requires : tie.Need-copy-bytes-requires
+copy-bytes-requires c κs = search needs
+
+same-length : tie.Need-same-length
+same-length c = search needs
+
+returns-3 : tie.Need-returns-3
+returns-3 c =
+    let w = c .before .before in
+    let e = w .before .before .before in
+    let a = e .before .before .before .before .args in
+    let answer = rewrite-accepted (a .bytes .now) (a .room .now) (sound e) (omega (arith, ap length (same e), w .before .before .if2 .left)) in (
+      ap (λ (l : List ℕ). record { refusal = 0; length = length l }) (sym (same e)) ∙ answer .0,
+      w .copy-bytes .ensures ∙ ap (λ (l : List ℕ). front l (a .room .now)) (sym (same e)) ∙ answer .1,
+    )
+
+pub form-rewrite-spec : {M : Type 1} → statement M
+form-rewrite-spec =
+    tie.close
+    (tie.spec form-fault-requires returns returns-2 copy-bytes-requires same-length returns-3)

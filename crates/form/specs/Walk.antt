@@ -1,0 +1,114 @@
+-- The walk over the bytes of a form, from the left: it reports the first fault that it meets, with its byte place, or a form
+-- (document 01, "The written form"; the faults and their places are those of document 02, No. 3). Read next: Counting.
+use mathlib.Core.Bool.{cond}
+use mathlib.Core.List.{List, [], _∷_, _++_}
+use Prim.Native.Nat.{ℕ, zero, suc, _+_}
+use lib.Dec.{eqb, leb, ltb}
+use lib.ListN.{length, getD, drop}
+use Rattle.records.specs.declared.Kind.{Kind}
+use Rattle.records.specs.declared.Kind.the-variants.{Variables, Product, Factor as FactorKind, End, On, Free, Unknown}
+use Rattle.records.specs.declared.Body.{Body}
+use Rattle.records.specs.declared.Body.the-variants.{Length, Unknown as NoLength}
+use Rattle.records.specs.Kinds.{kindOf, bodyOf, wordOf}
+use Rattle.table.specs.Table.{badCount}
+use Rattle.product.specs.Product.{Factor, fits, agrees}
+use Rattle.form.specs.declared.FormWalk.{FormWalk}
+use Rattle.form.specs.declared.FormWalk.the-variants.{Laid, WrongKind, Missing, WrongVariables, WrongFactor, NotCanonical, WrongCount, After, TooMany}
+use Rattle.form.specs.declared.Step.{Step}
+use Rattle.form.specs.declared.Step.the-variants.{Whole, Stop}
+use Rattle.form.specs.Form.{maxProducts}
+use Rattle.form.specs.Decoding.{factorOf}
+
+-- The body of the record whose kind stands at the place, before the bytes that follow that kind: it is judged only when all of it is there,
+-- and a cut one is missing bytes at the length of the input (document 02, No. 3).
+abbrev pub bodyStep : Body → ℕ → List ℕ → Step
+bodyStep (Length l) place rest = cond (leb l (length rest)) (Whole l) (Stop (Missing (place + 1 + length rest)))
+bodyStep NoLength place rest = Stop (WrongKind place)
+
+-- n, once its byte is there: 1 to the largest number of variables, or a fault at the byte (document 02, No. 3, refusal 22).
+abbrev pub variablesStep : Step → List ℕ → Step
+variablesStep (Stop fault) rest = Stop fault
+variablesStep (Whole l) rest = cond (badCount (getD rest 0 0)) (Stop (WrongVariables 1)) (Whole l)
+
+-- The first record gives n; any other kind stands wrong there.
+abbrev pub firstStep : Kind → List ℕ → Step
+firstStep Variables rest = variablesStep (bodyStep (bodyOf Variables) 0 rest) rest
+firstStep Product rest = Stop (WrongKind 0)
+firstStep FactorKind rest = Stop (WrongKind 0)
+firstStep End rest = Stop (WrongKind 0)
+firstStep On rest = Stop (WrongKind 0)
+firstStep Free rest = Stop (WrongKind 0)
+firstStep Unknown rest = Stop (WrongKind 0)
+
+-- A product begins, after a number of others; one too many is a fault at its kind.
+abbrev pub productStep : ℕ → ℕ → List ℕ → Step
+productStep products place rest = cond (ltb products maxProducts) (bodyStep (bodyOf Product) place rest) (Stop (TooMany place))
+
+-- The factor of a whole body, after those before it in its product: constant and mask first, then that it agrees with those before it.
+abbrev pub judgeStep : Step → ℕ → List Factor → ℕ → Factor → Step
+judgeStep (Stop fault) n earlier place f = Stop fault
+judgeStep (Whole l) n earlier place f =
+    cond (fits n f) (cond (agrees earlier f) (Whole l) (Stop (NotCanonical (place + 1)))) (Stop (WrongFactor (place + 1)))
+
+-- A factor, which stands wrong before the first product.
+abbrev pub factorStep : ℕ → ℕ → List Factor → ℕ → List ℕ → Step
+factorStep n products earlier place rest =
+    cond (eqb products 0) (Stop (WrongKind place)) (judgeStep (bodyStep (bodyOf FactorKind) place rest) n earlier place (factorOf rest))
+
+-- After the end record nothing may stand.
+abbrev pub afterEnd : ℕ → ℕ → List ℕ → FormWalk
+afterEnd products place [] = Laid products
+afterEnd products place (byte ∷ rest) = After place
+
+-- The body of the end record, once all of it is there, is the number of products before it; then nothing may follow.
+abbrev pub endStep : Step → ℕ → ℕ → List ℕ → Step
+endStep (Stop fault) products place rest = Stop fault
+endStep (Whole l) products place rest =
+    Stop
+    (cond (eqb (wordOf (getD rest 0 0) (getD rest 1 0)) products) (afterEnd products (place + 1 + l) (drop l rest)) (WrongCount (place + 1)))
+
+-- What lies behind a place of the walk: the number of products, and the factors of the last of them.
+pub record Behind : Type 0 where
+  pub products : ℕ
+  pub factors : List Factor
+
+-- That many products and these factors.
+abbrev pub behind : ℕ → List Factor → Behind
+behind products factors = record { products = products; factors = factors }
+
+-- A record after the first is a product, a factor or the end; any other kind stands wrong.
+abbrev pub recordStep : ℕ → Behind → Kind → ℕ → List ℕ → Step
+recordStep n b Product place rest = productStep (b .products) place rest
+recordStep n b FactorKind place rest = factorStep n (b .products) (b .factors) place rest
+recordStep n b End place rest = endStep (bodyStep (bodyOf End) place rest) (b .products) place rest
+recordStep n b Variables place rest = Stop (WrongKind place)
+recordStep n b On place rest = Stop (WrongKind place)
+recordStep n b Free place rest = Stop (WrongKind place)
+recordStep n b Unknown place rest = Stop (WrongKind place)
+
+-- What lies behind once a record is passed too: a product begins without factors, a factor is the last of its product.
+abbrev pub passed : Kind → List ℕ → Behind → Behind
+passed Product rest b = behind (b .products + 1) []
+passed FactorKind rest b = behind (b .products) (b .factors ++ (factorOf rest ∷ []))
+passed End rest b = b
+passed Variables rest b = b
+passed On rest b = b
+passed Free rest b = b
+passed Unknown rest b = b
+
+-- A whole record is passed, and the walk goes on; otherwise it ends.
+abbrev pub goOn : Step → (ℕ → FormWalk) → FormWalk
+goOn (Whole l) next = next l
+goOn (Stop end) next = end
+
+-- The walk over the bytes from a place on, for n variables, once the given number of bytes of a body is passed.
+unfoldable pub walkFrom : ℕ → ℕ → Behind → ℕ → List ℕ → FormWalk
+walkFrom n skip b place [] = Missing place
+walkFrom n zero b place (byte ∷ rest) =
+    goOn (recordStep n b (kindOf byte) place rest) (λ l. walkFrom n l (passed (kindOf byte) rest b) (place + 1) rest)
+walkFrom n (suc skip) b place (byte ∷ rest) = walkFrom n skip b (place + 1) rest
+
+-- The walk over a whole input: the first record, products with their factors, the end.
+unfoldable pub walkedForm : List ℕ → FormWalk
+walkedForm [] = Missing 0
+walkedForm (byte ∷ rest) = goOn (firstStep (kindOf byte) rest) (λ l. walkFrom (getD rest 0 0) l (behind 0 []) 1 rest)

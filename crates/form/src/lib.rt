@@ -1,0 +1,459 @@
+// The written form (document 01, "The written form"): its bytes are walked from the left, valued at a point, read into points and written again.
+// Read next: specs/Walk.antt.
+ghost use mathlib.Core.Path.{_≡_};
+ghost use mathlib.Core.Bool.{_&&_};
+ghost use mathlib.Core.List.{[]};
+ghost use Prim.Native.Nat.{ℕ, _+_, _≤_, _<_};
+ghost use lib.ListN.{length, getD, drop};
+ghost use Rattle.gf2.specs.Limits.{maxVariables};
+ghost use Rattle.gf2.specs.Finite.{select};
+ghost use Rattle.records.specs.Kinds.{bodyOf, kindOf};
+ghost use Rattle.table.specs.Decision.{front};
+ghost use Rattle.product.specs.Product.{agrees, factor, factorAt, fits};
+ghost use Rattle.form.specs.Form.{formAt};
+ghost use Rattle.form.specs.Decoding.{decodeForm, factorOf};
+ghost use Rattle.form.specs.Reading.{IsForm, formFault, formLayoutOf, pointsAfter, pointsAnswer, rewriteAfter, rewriteAnswer};
+ghost use Rattle.form.specs.Walk.{behind, bodyStep, endStep, factorStep, firstStep, productStep, recordStep, walkFrom, walkedForm};
+ghost use Rattle.form.specs.Counting.{Counted, behindBy, countsAfter, factorLength, factorsBefore};
+use records::Body;
+use records::Kind;
+
+// The most products of a form, as `maxProducts` in specs/.
+pub const MAX_PRODUCTS: usize = 64;
+
+// Where the first product begins, and the lengths of the records that begin a product and give a factor, their kind included.
+const FIRST_PRODUCT: usize = 2;
+
+const PRODUCT_LENGTH: usize = 1;
+
+const FACTOR_LENGTH: usize = 4;
+
+// What the walk over the bytes finds: a form with a number of products, or the first fault with its place (document 02, No. 3).
+pub enum FormWalk {
+    Laid(usize),
+    WrongKind(usize),
+    Missing(usize),
+    WrongVariables(usize),
+    WrongFactor(usize),
+    NotCanonical(usize),
+    WrongCount(usize),
+    After(usize),
+    TooMany(usize),
+}
+
+// What the walk finds at one record: a whole one, with the length of its body, or how the walk ends.
+pub enum Step {
+    Whole(usize),
+    Stop(FormWalk),
+}
+
+// What lies behind the walk: how many products, and how many factors the last of them has.
+pub struct Counts {
+    pub products: usize,
+    pub factors: usize,
+}
+
+// What reading the points gives: the refusal or 0, n, and how many points there are.
+#[repr(C)]
+pub struct FormPoints {
+    pub refusal: u8,
+    pub variables: usize,
+    pub count: usize,
+}
+
+// What writing a form again gives: the refusal or 0, and how many bytes are written.
+#[repr(C)]
+pub struct FormRewrite {
+    pub refusal: u8,
+    pub length: usize,
+}
+
+// The body of the record at the place.
+fn body_step(bytes: &[u8], place: usize, kind: Kind) -> Step
+    requires { ⌜ place < length (now bytes) ⌝ }
+    ensures { λ r. ⌜ r ≡ bodyStep (bodyOf kind) place (drop (place + 1) (now (bytes .entry))) ⌝ }
+{
+    let Body::Length(length) = records::body_of(kind) else {
+        return Step::Stop(FormWalk::WrongKind(place));
+    };
+    if length < bytes.len() - place {
+        Step::Whole(length)
+    } else {
+        Step::Stop(FormWalk::Missing(bytes.len()))
+    }
+}
+
+// The first record of a form, which gives n.
+fn first_step(bytes: &[u8]) -> Step
+    requires { ⌜ 0 < length (now bytes) ⌝ }
+    ensures { λ r. ⌜ r ≡ firstStep (kindOf (getD (now (bytes .entry)) 0 0)) (drop 1 (now (bytes .entry))) ⌝ }
+{
+    let kind = records::kind_of(bytes[0]);
+    let Kind::Variables = kind else {
+        return Step::Stop(FormWalk::WrongKind(0));
+    };
+    let body = body_step(bytes, 0, Kind::Variables);
+    let Step::Whole(length) = body else {
+        return body;
+    };
+    if table::bad_count(bytes[1] as usize) {
+        return Step::Stop(FormWalk::WrongVariables(1));
+    }
+    Step::Whole(length)
+}
+
+// A product begins at the place, after a number of others.
+fn product_step(bytes: &[u8], products: usize, place: usize) -> Step
+    requires { ⌜ place < length (now bytes) ⌝ }
+    ensures { λ r. ⌜ r ≡ productStep products place (drop (place + 1) (now (bytes .entry))) ⌝ }
+{
+    if products < MAX_PRODUCTS {
+        body_step(bytes, place, Kind::Product)
+    } else {
+        Step::Stop(FormWalk::TooMany(place))
+    }
+}
+
+// The mask of the factor whose record begins at the place.
+fn mask_at(bytes: &[u8], place: usize) -> u16
+    requires { ⌜ place + factorLength ≤ length (now bytes) ⌝ }
+    ensures { λ r. ⌜ r ≡ factorOf (drop (place + 1) (now (bytes .entry))) .mask ⌝ }
+{
+    records::word(bytes[place + 2], bytes[place + 3])
+}
+
+// A factor of n variables: the constant is 0 or 1, the mask 1 to 2^n - 1.
+fn fits(n: usize, constant: u8, mask: u16) -> bool
+    requires { ⌜ n ≤ maxVariables ⌝ }
+    ensures { λ r. ⌜ r ≡ fits n (factor constant mask) ⌝ }
+{
+    if constant > 1 {
+        return false;
+    }
+    if mask < 1 {
+        return false;
+    }
+    mask < table::point_count(n)
+}
+
+// The mask agrees with those of the factors in a number of records right before the place.
+fn agrees_before(bytes: &[u8], n: usize, counts: Counts, place: usize, mask: u16) -> bool
+    requires { ⌜ Counted n (now bytes) counts place ⌝ }
+    requires { ⌜ 0 < mask ⌝ }
+    ensures { λ r. ⌜ ((constant : ℕ) → r ≡ agrees (factorsBefore (counts .factors) (now (bytes .entry)) place) (factor constant mask)) ⌝ }
+{
+    let mut left = counts.factors;
+    let mut at = place;
+    while left > 0 {
+        left -= 1;
+        at -= FACTOR_LENGTH;
+        if !product::apart(mask_at(bytes, at), mask) {
+            return false;
+        }
+    }
+    true
+}
+
+// The factor at the place: constant and mask first, then that it agrees with those before it in its product.
+fn factor_step(bytes: &[u8], n: usize, counts: Counts, place: usize) -> Step
+    requires { ⌜ Counted n (now bytes) counts place ⌝ }
+    requires { ⌜ place < length (now bytes) ⌝ }
+    ensures { λ r.
+        ⌜
+        r
+        ≡ factorStep
+        n
+        (counts .products)
+        (factorsBefore (counts .factors) (now (bytes .entry)) place)
+        place
+        (drop (place + 1) (now (bytes .entry)))
+        ⌝ }
+{
+    if counts.products == 0 {
+        return Step::Stop(FormWalk::WrongKind(place));
+    }
+    let body = body_step(bytes, place, Kind::Factor);
+    let Step::Whole(length) = body else {
+        return body;
+    };
+    let mask = mask_at(bytes, place);
+    if !fits(n, bytes[place + 1], mask) {
+        return Step::Stop(FormWalk::WrongFactor(place + 1));
+    }
+    if !agrees_before(bytes, n, counts, place, mask) {
+        return Step::Stop(FormWalk::NotCanonical(place + 1));
+    }
+    Step::Whole(length)
+}
+
+// The end record at the place: the number of products before it, and nothing after.
+fn end_step(bytes: &[u8], products: usize, place: usize) -> Step
+    requires { ⌜ place < length (now bytes) ⌝ }
+    ensures { λ r.
+        ⌜
+        r
+        ≡ endStep
+        (bodyStep (bodyOf Kind.End) place (drop (place + 1) (now (bytes .entry))))
+        products
+        place
+        (drop (place + 1) (now (bytes .entry)))
+        ⌝ }
+{
+    let body = body_step(bytes, place, Kind::End);
+    let Step::Whole(length) = body else {
+        return body;
+    };
+    let next = place + 1 + length;
+    if records::word(bytes[place + 1], bytes[place + 2]) as usize != products {
+        Step::Stop(FormWalk::WrongCount(place + 1))
+    } else if next < bytes.len() {
+        Step::Stop(FormWalk::After(next))
+    } else {
+        Step::Stop(FormWalk::Laid(products))
+    }
+}
+
+// A record after the first, at the place.
+fn record_step(bytes: &[u8], n: usize, counts: Counts, place: usize) -> Step
+    requires { ⌜ Counted n (now bytes) counts place ⌝ }
+    requires { ⌜ place < length (now bytes) ⌝ }
+    ensures { λ r.
+        ⌜
+        r
+        ≡ recordStep
+        n
+        (behindBy (now (bytes .entry)) counts place)
+        (kindOf (getD (now (bytes .entry)) place 0))
+        place
+        (drop (place + 1) (now (bytes .entry)))
+        ⌝ }
+{
+    match records::kind_of(bytes[place]) {
+        Kind::Product => product_step(bytes, counts.products, place),
+        Kind::Factor => factor_step(bytes, n, counts, place),
+        Kind::End => end_step(bytes, counts.products, place),
+        _ => Step::Stop(FormWalk::WrongKind(place)),
+    }
+}
+
+// The counts once the record at the place is passed too.
+fn counts_after(bytes: &[u8], n: usize, counts: Counts, place: usize) -> Counts
+    requires { ⌜ Counted n (now bytes) counts place ⌝ }
+    requires { ⌜ place < length (now bytes) ⌝ }
+    ensures { λ r. ⌜ r ≡ countsAfter (kindOf (getD (now (bytes .entry)) place 0)) counts ⌝ }
+{
+    match records::kind_of(bytes[place]) {
+        Kind::Product => Counts {
+            products: counts.products + 1,
+            factors: 0,
+        },
+        Kind::Factor => Counts {
+            products: counts.products,
+            factors: counts.factors + 1,
+        },
+        _ => counts,
+    }
+}
+
+// The walk over the records after the first, from the place on.
+fn walk_records(bytes: &[u8], n: usize, start: usize) -> FormWalk
+    requires { ⌜ (n ≤ maxVariables) × (start ≤ length (now bytes)) ⌝ }
+    ensures { λ r. ⌜ r ≡ walkFrom n 0 (behind 0 []) start (drop start (now (bytes .entry))) ⌝ }
+{
+    let mut counts = Counts {
+        products: 0,
+        factors: 0,
+    };
+    let mut place = start;
+    while place < bytes.len() {
+        match record_step(bytes, n, counts, place) {
+            Step::Stop(end) => {
+                return end;
+            }
+            Step::Whole(length) => {
+                counts = counts_after(bytes, n, counts, place);
+                place = place + 1 + length;
+            }
+        }
+    }
+    FormWalk::Missing(place)
+}
+
+// The walk over the bytes of a form.
+pub fn walk_form(bytes: &[u8]) -> FormWalk
+    ensures { λ r. ⌜ r ≡ walkedForm (now (bytes .entry)) ⌝ }
+{
+    if bytes.len() == 0 {
+        return FormWalk::Missing(0);
+    }
+    match first_step(bytes) {
+        Step::Stop(end) => end,
+        Step::Whole(length) => walk_records(bytes, bytes[1] as usize, 1 + length),
+    }
+}
+
+// The refusal number of what the walk found, or 0.
+fn form_layout(found: FormWalk) -> u8
+    ensures { λ r. ⌜ r ≡ formLayoutOf found ⌝ }
+{
+    match found {
+        FormWalk::Laid(_) => 0,
+        FormWalk::WrongKind(_) => table::LAYOUT_FAULT,
+        FormWalk::Missing(_) => table::LAYOUT_FAULT,
+        FormWalk::WrongVariables(_) => table::LAYOUT_FAULT,
+        FormWalk::WrongFactor(_) => table::LAYOUT_FAULT,
+        FormWalk::NotCanonical(_) => table::LAYOUT_FAULT,
+        FormWalk::WrongCount(_) => table::LAYOUT_FAULT,
+        FormWalk::After(_) => table::LAYOUT_FAULT,
+        FormWalk::TooMany(_) => table::LAYOUT_FAULT,
+    }
+}
+
+// The refusal of a form's bytes, or 0.
+pub fn form_fault(bytes: &[u8]) -> u8
+    ensures { λ r. ⌜ r ≡ formFault (now (bytes .entry)) ⌝ }
+{
+    form_layout(walk_form(bytes))
+}
+
+// A product that held the point so far holds it with the factor at the place too.
+fn still_holds(bytes: &[u8], place: usize, holds: bool, point: u16) -> bool
+    requires { ⌜ place + factorLength ≤ length (now bytes) ⌝ }
+    ensures { λ r. ⌜ r ≡ holds && factorAt (factorOf (drop (place + 1) (now (bytes .entry)))) point ⌝ }
+{
+    if !holds {
+        return false;
+    }
+    product::factor_at(bytes[place + 1], mask_at(bytes, place), point)
+}
+
+// The value of an accepted form at a point: true when some product is.
+pub fn form_at(bytes: &[u8], point: u16) -> bool
+    requires { ⌜ IsForm (now bytes) ⌝ }
+    ensures { λ r. ⌜ r ≡ formAt (decodeForm (now (bytes .entry))) point ⌝ }
+{
+    let mut place = FIRST_PRODUCT;
+    let mut holds = false;
+    loop {
+        match records::kind_of(bytes[place]) {
+            Kind::Product => {
+                if holds {
+                    return true;
+                }
+                holds = true;
+                place += PRODUCT_LENGTH;
+                continue;
+            }
+            Kind::Factor => {
+                holds = still_holds(bytes, place, holds, point);
+                place += FACTOR_LENGTH;
+                continue;
+            }
+            _ => {
+                return holds;
+            }
+        }
+    }
+}
+
+// How many points below a bound an accepted form has.
+fn count_points(bytes: &[u8], size: u16) -> usize
+    requires { ⌜ IsForm (now bytes) ⌝ }
+    ensures { λ r. ⌜ r ≡ length (select (formAt (decodeForm (now (bytes .entry)))) size) ⌝ }
+{
+    let mut count: usize = 0;
+    let mut point: u16 = 0;
+    while point < size {
+        if form_at(bytes, point) {
+            count += 1;
+        }
+        point += 1;
+    }
+    count
+}
+
+// The points below a bound of an accepted form, written to the front of a room that has place for them.
+fn write_points(bytes: &[u8], size: u16, room: &mut [u16])
+    requires { ⌜ IsForm (now bytes) ⌝ }
+    requires { ⌜ length (select (formAt (decodeForm (now bytes))) size) ≤ length (now room) ⌝ }
+    ensures { λ _. ⌜ now (room .exit) ≡ front (select (formAt (decodeForm (now (bytes .entry)))) size) (now (room .entry)) ⌝ }
+{
+    let mut count: usize = 0;
+    let mut point: u16 = 0;
+    while point < size {
+        if form_at(bytes, point) {
+            room[count] = point;
+            count += 1;
+        }
+        point += 1;
+    }
+}
+
+// The points of a form, rising, at the front of the room; refused are bytes that are no form (8), then a room that is short (7).
+pub fn form_points(bytes: &[u8], room: &mut [u16]) -> FormPoints
+    ensures { λ r. ⌜ r ≡ pointsAnswer (now (bytes .entry)) (now (room .entry)) ⌝ }
+    ensures { λ r. ⌜ now (room .exit) ≡ pointsAfter (now (bytes .entry)) (now (room .entry)) ⌝ }
+{
+    let fault = form_fault(bytes);
+    if fault != 0 {
+        return FormPoints {
+            refusal: fault,
+            variables: 0,
+            count: 0,
+        };
+    }
+    let n = bytes[1] as usize;
+    let size = table::point_count(n);
+    let count = count_points(bytes, size);
+    if room.len() < count {
+        return FormPoints {
+            refusal: table::ROOM_FAULT,
+            variables: 0,
+            count: 0,
+        };
+    }
+    write_points(bytes, size, room);
+    FormPoints {
+        refusal: 0,
+        variables: n,
+        count: count,
+    }
+}
+
+// The bytes, written to the front of a room that has place for them.
+fn copy_bytes(bytes: &[u8], room: &mut [u8])
+    requires { ⌜ length (now bytes) ≤ length (now room) ⌝ }
+    ensures { λ _. ⌜ now (room .exit) ≡ front (now (bytes .entry)) (now (room .entry)) ⌝ }
+{
+    let mut i = 0;
+    while i < bytes.len() {
+        room[i] = bytes[i];
+        i += 1;
+    }
+}
+
+// A form that was read, written to the front of the room, which gives the same bytes; refused are bytes that are no form (8), then a room that
+// is short (7).
+pub fn form_rewrite(bytes: &[u8], room: &mut [u8]) -> FormRewrite
+    ensures { λ r. ⌜ r ≡ rewriteAnswer (now (bytes .entry)) (now (room .entry)) ⌝ }
+    ensures { λ r. ⌜ now (room .exit) ≡ rewriteAfter (now (bytes .entry)) (now (room .entry)) ⌝ }
+{
+    let fault = form_fault(bytes);
+    if fault != 0 {
+        return FormRewrite {
+            refusal: fault,
+            length: 0,
+        };
+    }
+    if room.len() < bytes.len() {
+        return FormRewrite {
+            refusal: table::ROOM_FAULT,
+            length: 0,
+        };
+    }
+    copy_bytes(bytes, room);
+    FormRewrite {
+        refusal: 0,
+        length: bytes.len(),
+    }
+}
