@@ -1,7 +1,7 @@
 // The table of reduced bases of six variables. What its numbers are is in specs/Bases.antt, and that they are right in proofs/Table.antt.
 ghost use mathlib.Core.Path.{_≡_};
 ghost use Prim.Native.Nat.{_<_};
-ghost use lib.ListN.{getD, length};
+ghost use lib.ListN.{getD};
 ghost use Rattle.bases.specs.Entries.{entries};
 
 // The entries, as `entries` has them.

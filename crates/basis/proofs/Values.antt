@@ -1,11 +1,11 @@
 -- Laws of short lists and bases by value: one number put behind the others, and the list read back.
-use mathlib.Core.Path.{_≡_, refl, sym, ap, ap₂, _∙_, subst}
-use mathlib.Core.Logic.{_↔_, inl, inr}
+use mathlib.Core.Path.{_≡_, refl, sym, ap, _∙_, subst}
+use mathlib.Core.Logic.{_↔_}
 use mathlib.Core.List.{List, [], _∷_, _++_, append-assoc}
-use Prim.Native.Nat.{ℕ, zero, suc, _+_, _-_, _^_, _≤_, _<_}
+use Prim.Native.Nat.{ℕ, suc, _+_, _-_, _^_, _≤_, _<_}
 use native.Mathlib.Numerals.{add-one}
 use native.Mathlib.Omega.{arith}
-use lib.ListN.{length, take, drop, set, getD, replicate, length-append, length-replicate, drop-of-length-le}
+use lib.ListN.{length, drop, set, getD, replicate, length-append, length-replicate, drop-of-length-le}
 use lib.Seq.{take-append-seam, set-append-seam, drop-cons, getD-take}
 use Rattle.gf2.specs.Limits.{maxVariables}
 use Rattle.gf2.specs.Finite.{Mem}
@@ -16,7 +16,7 @@ use Rattle.gf2.proofs.Reduce.{reduced-length, reduced-pos}
 use Rattle.gf2.proofs.Insert.{insert-reduced, insert-span, insert-below}
 use Rattle.basis.specs.declared.Basis.{Basis}
 use Rattle.basis.specs.declared.ShortList.{ShortList}
-use Rattle.basis.specs.Short.{listed, padded, short}
+use Rattle.basis.specs.Short.{listed, short}
 use Rattle.basis.specs.Reduced.{vectorsOf, basisOf, IsBasis, Built}
 
 -- ---- arrays of m entries, of which those behind the list are 0

@@ -1,8 +1,7 @@
 // A reduced basis by value, built by putting in one vector at a time (document 01, "Points and spaces" and "Forms and where they belong").
 // A basis is passed as `self` and handed back; `EMPTY` and `full(n)` are the named starting values. Read first: crate `gf2`.
 ghost use mathlib.Core.Path.{_≡_};
-ghost use mathlib.Core.Bool.{Bool, not};
-ghost use mathlib.Core.List.{List, [], _∷_, _++_};
+ghost use mathlib.Core.List.{[], _∷_, _++_};
 ghost use Prim.Native.Nat.{ℕ, _+_, _≤_, _<_, _^_, min, max};
 ghost use lib.Dec.{eqb};
 ghost use lib.ListN.{length};

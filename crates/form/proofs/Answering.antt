@@ -19,11 +19,12 @@ use Rattle.form.specs.declared.FormRewrite.{FormRewrite}
 use Rattle.form.specs.Form.{Form, formAt, formPoints}
 use Rattle.form.specs.Decoding.{formVariables, decodeForm}
 use Rattle.form.specs.Walk.{walkedForm}
-use Rattle.form.specs.Reading.{IsForm, formTests, formLayoutOf, formFault, pointsOf, pointsTests, acceptedPoints, refusedPoints, pointsAnswer, pointsAfter, rewritten, rewriteTests, acceptedRewrite, refusedRewrite, rewriteAnswer, rewriteAfter}
+use Rattle.form.specs.Reading.{IsForm, formFault, pointsOf, pointsTests, acceptedPoints, refusedPoints, pointsAnswer, pointsAfter, rewritten, rewriteTests, acceptedRewrite, refusedRewrite, rewriteAnswer, rewriteAfter}
 use Rattle.form.proofs.Laying.{LaidAs, form, form-laid}
 use Rattle.form.proofs.Encodings.{form-valid}
 use Rattle.table.proofs.Fill.{fill-push, fill-length}
 use Rattle.records.specs.Kinds.{Bytes}
+use Rattle.records.specs.Walks.{layoutTests, layoutOf}
 
 -- ---- the numbers below a bound that pass a test
 
@@ -52,14 +53,14 @@ module _ (t : ℕ → Bool) (k : ℕ) where
 
 -- ---- the tests of a form's bytes
 
-pub form-numbered : (bytes : List ℕ) → Numbered (formTests (walkedForm bytes))
+pub form-numbered : (bytes : List ℕ) → Numbered (layoutTests (walkedForm bytes))
 unfolding holds
-form-numbered bytes = numbered (formTests (walkedForm bytes)) refl
+form-numbered bytes = numbered (layoutTests (walkedForm bytes)) refl
 
 -- There is no refusal exactly where the bytes are a form.
 pub no-refusal : (bytes : List ℕ) → formFault bytes ≡ 0 → IsForm bytes
-unfolding formLayoutOf
-no-refusal bytes e = no-fault (formTests (walkedForm bytes)) (form-numbered bytes) .0 e _ (inl refl)
+unfolding layoutOf
+no-refusal bytes e = no-fault (layoutTests (walkedForm bytes)) (form-numbered bytes) .0 e _ (inl refl)
 
 -- An accepted form has its first record, which gives an n as in a table.
 pub form-begins : (bytes : List ℕ) → IsForm bytes → (1 < length bytes) × (formVariables bytes ≤ maxVariables)
@@ -78,31 +79,31 @@ module _ (bytes : List ℕ) where
 
   module _ (room : List ℕ) where
     pub points-refused : (k : ℕ) → k ≡ formFault bytes → k ≢ 0 → (refusedPoints k ≡ pointsAnswer bytes room) × (room ≡ pointsAfter bytes room)
-    unfolding formLayoutOf pointsAnswer pointsAfter
-    points-refused = call-refused (formTests (walkedForm bytes)) (pointsOf bytes) room (acceptedPoints bytes) refusedPoints
+    unfolding layoutOf pointsAnswer pointsAfter
+    points-refused = call-refused (layoutTests (walkedForm bytes)) (pointsOf bytes) room (acceptedPoints bytes) refusedPoints
 
     pub points-short : formFault bytes ≡ 0 → length room < length (pointsOf bytes) → (refusedPoints roomFault ≡ pointsAnswer bytes room) × (room ≡ pointsAfter bytes room)
-    unfolding formLayoutOf pointsAnswer pointsAfter
-    points-short = call-short (formTests (walkedForm bytes)) (pointsOf bytes) room (acceptedPoints bytes) refusedPoints (form-numbered bytes)
+    unfolding layoutOf pointsAnswer pointsAfter
+    points-short = call-short (layoutTests (walkedForm bytes)) (pointsOf bytes) room (acceptedPoints bytes) refusedPoints (form-numbered bytes)
 
     pub points-accepted : formFault bytes ≡ 0 → length (pointsOf bytes) ≤ length room → (acceptedPoints bytes ≡ pointsAnswer bytes room) × (front (pointsOf bytes) room ≡ pointsAfter bytes room)
-    unfolding formLayoutOf pointsAnswer pointsAfter
-    points-accepted = call-accepted (formTests (walkedForm bytes)) (pointsOf bytes) room (acceptedPoints bytes) refusedPoints (form-numbered bytes)
+    unfolding layoutOf pointsAnswer pointsAfter
+    points-accepted = call-accepted (layoutTests (walkedForm bytes)) (pointsOf bytes) room (acceptedPoints bytes) refusedPoints (form-numbered bytes)
 
 -- ---- the bytes of a form that was read, in a room
 
 module _ (bytes : List ℕ) (room : List ℕ) where
   pub rewrite-refused : (k : ℕ) → k ≡ formFault bytes → k ≢ 0 → (refusedRewrite k ≡ rewriteAnswer bytes room) × (room ≡ rewriteAfter bytes room)
-  unfolding formLayoutOf rewriteAnswer rewriteAfter
-  rewrite-refused = call-refused (formTests (walkedForm bytes)) (rewritten bytes) room (acceptedRewrite bytes) refusedRewrite
+  unfolding layoutOf rewriteAnswer rewriteAfter
+  rewrite-refused = call-refused (layoutTests (walkedForm bytes)) (rewritten bytes) room (acceptedRewrite bytes) refusedRewrite
 
   pub rewrite-short : formFault bytes ≡ 0 → length room < length (rewritten bytes) → (refusedRewrite roomFault ≡ rewriteAnswer bytes room) × (room ≡ rewriteAfter bytes room)
-  unfolding formLayoutOf rewriteAnswer rewriteAfter
-  rewrite-short = call-short (formTests (walkedForm bytes)) (rewritten bytes) room (acceptedRewrite bytes) refusedRewrite (form-numbered bytes)
+  unfolding layoutOf rewriteAnswer rewriteAfter
+  rewrite-short = call-short (layoutTests (walkedForm bytes)) (rewritten bytes) room (acceptedRewrite bytes) refusedRewrite (form-numbered bytes)
 
   pub rewrite-accepted : formFault bytes ≡ 0 → length (rewritten bytes) ≤ length room → (acceptedRewrite bytes ≡ rewriteAnswer bytes room) × (front (rewritten bytes) room ≡ rewriteAfter bytes room)
-  unfolding formLayoutOf rewriteAnswer rewriteAfter
-  rewrite-accepted = call-accepted (formTests (walkedForm bytes)) (rewritten bytes) room (acceptedRewrite bytes) refusedRewrite (form-numbered bytes)
+  unfolding layoutOf rewriteAnswer rewriteAfter
+  rewrite-accepted = call-accepted (layoutTests (walkedForm bytes)) (rewritten bytes) room (acceptedRewrite bytes) refusedRewrite (form-numbered bytes)
 
 -- A slice of bytes is a list of bytes.
 pub slice-bytes : (bytes : List ℕ) → ((i : ℕ) → getD bytes i 0 < 256) → Bytes bytes

@@ -8,7 +8,7 @@ use lib.ListN.{length, length-append}
 use borrow.Author.Tests.{le-leb, lt-ltb, ne-eqb}
 use Rattle.records.specs.Kinds.{kindOf, wordOf}
 use Rattle.product.specs.Product.{Factor, factor}
-use Rattle.form.specs.declared.FormWalk.the-variants.{Missing}
+use Rattle.records.specs.declared.Walk.the-variants.{Missing}
 use Rattle.form.specs.Form.{maxProducts}
 use Rattle.form.specs.Walk.{behind, walkFrom, walkedForm}
 use Rattle.form.specs.Reading.{IsForm}

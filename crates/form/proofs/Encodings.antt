@@ -19,7 +19,7 @@ use Rattle.records.proofs.KindBytes.{kind-byte, word-of-bytes, low-of-word, hig
 use Rattle.table.proofs.Table.{good-count}
 use Rattle.product.specs.Product.{Factor, factor, fits, AllFit, Canonical, canonical, agrees}
 use Rattle.product.proofs.Product.{fits-is, canonical-is, canonical-next, canonical-prefix}
-use Rattle.form.specs.declared.FormWalk.the-variants.{Laid, After}
+use Rattle.records.specs.declared.Walk.the-variants.{Laid, After}
 use Rattle.form.specs.Form.{maxProducts, Form, ValidForm, formPoints}
 use Rattle.form.specs.Encoding.{encodeFactors, encodeProducts, encodeForm}
 use Rattle.form.specs.Decoding.{Parts, noParts, partsFrom, formProducts, decodeForm}

@@ -11,7 +11,7 @@ use Rattle.records.specs.Kinds.{kindOf}
 use Rattle.table.specs.Table.{badCount}
 use Rattle.product.specs.Lowest.{evenHalvings, lowest}
 use Rattle.product.specs.Product.{factorAt, productAt, someProductAt, fits, apartMasks, apart, agrees}
-use Rattle.form.specs.declared.FormWalk.the-variants.{Laid, WrongKind, Missing, WrongVariables, WrongFactor, NotCanonical, WrongCount, After, TooMany}
+use Rattle.records.specs.declared.Walk.the-variants.{Laid, WrongKind, Missing, WrongVariables, WrongFactor, NotCanonical, WrongCount, After, TooMany}
 use Rattle.form.specs.Form.{formPoints}
 use Rattle.form.specs.Encoding.{encodeFactors, encodeProducts, encodeForm}
 use Rattle.form.specs.Decoding.{partsFrom}

@@ -17,15 +17,16 @@ use Rattle.records.specs.declared.Body.the-variants.{Length}
 use Rattle.records.specs.Kinds.{kindOf, bodyOf, wordOf}
 use Rattle.table.specs.Table.{badCount}
 use Rattle.product.specs.Product.{Factor, factor, fits, agrees}
-use Rattle.form.specs.declared.FormWalk.{FormWalk}
-use Rattle.form.specs.declared.FormWalk.the-variants.{Laid, WrongKind, Missing, WrongVariables, WrongFactor, NotCanonical, WrongCount, After, TooMany}
-use Rattle.form.specs.declared.Step.{Step}
-use Rattle.form.specs.declared.Step.the-variants.{Whole, Stop}
+use Rattle.records.specs.declared.Walk.{Walk}
+use Rattle.records.specs.declared.Walk.the-variants.{Laid, WrongKind, Missing, WrongVariables, WrongFactor, NotCanonical, WrongCount, After, TooMany}
+use Rattle.records.specs.declared.Step.{Step}
+use Rattle.records.specs.declared.Step.the-variants.{Whole, Stop}
+use Rattle.records.specs.Walks.{bodyStep, afterEnd, endStep, goOn, isFault}
+use Rattle.records.proofs.Whole.{not-whole, body-length, faulty}
 use Rattle.form.specs.Form.{maxProducts}
 use Rattle.form.specs.Decoding.{factorOf}
-use Rattle.form.specs.Walk.{bodyStep, variablesStep, firstStep, productStep, judgeStep, factorStep, afterEnd, endStep, behind, recordStep, passed, goOn, walkFrom, walkedForm}
-use Rattle.form.specs.Reading.{isFault, IsForm}
-use Rattle.form.proofs.Walking.{not-whole, body-length}
+use Rattle.form.specs.Walk.{variablesStep, firstStep, productStep, judgeStep, factorStep, behind, recordStep, passed, walkFrom, walkedForm}
+use Rattle.form.specs.Reading.{IsForm}
 
 -- The bytes, with a number of products behind them and the factors of the last of these, are whole records of products and factors and
 -- the end, which gives the number of all products; each factor fits and agrees with those before it.
@@ -42,14 +43,10 @@ pub data Laying : ℕ → List ℕ → ℕ → List Factor → ℕ → Type 0 wh
 pub data LaidAs : List ℕ → ℕ → Type 0 where
   form : {byte n : ℕ} {rest : List ℕ} {all : ℕ} → kindOf byte ≡ Variables → badCount n ≡ false → Laying n rest 0 [] all → LaidAs (byte ∷ n ∷ rest) all
 
--- A fault is no form.
-pub faulty : {A : Type 0} {found : FormWalk} {count : ℕ} → isFault found ≡ true → found ≡ Laid count → A
-faulty p e = clash p (ap isFault e)
-
 -- ---- from the walk to the records
 
 -- A test in front of a step: where it ends the walk with a fault, no form is found.
-module _ {all : ℕ} (s : Step) (w : FormWalk) (bad : isFault w ≡ true) (next : ℕ → FormWalk) where
+module _ {all : ℕ} (s : Step) (w : Walk) (bad : isFault w ≡ true) (next : ℕ → Walk) where
   kept : (t : Bool) → goOn (cond t s (Stop w)) next ≡ Laid all → (t ≡ true) × (goOn s next ≡ Laid all)
   kept true e = (refl, e)
   kept false e = faulty bad e
@@ -58,21 +55,21 @@ module _ {all : ℕ} (s : Step) (w : FormWalk) (bad : isFault w ≡ true) (next 
   left true e = faulty bad e
   left false e = (refl, e)
 
-module _ (products place all : ℕ) (next : ℕ → FormWalk) where
+module _ (products place all : ℕ) (next : ℕ → Walk) where
   product-goes : (rest : List ℕ) → goOn (productStep products place rest) next ≡ Laid all → (products < maxProducts) × (next 0 ≡ Laid all)
   product-goes rest e =
       let h = kept (bodyStep (bodyOf Product) place rest) (TooMany place) refl next (ltb products maxProducts) e in
       (ltb-true products maxProducts (h .0), kept (Whole 0) (Missing (place + 1 + length rest)) refl next (leb 0 (length rest)) (h .1) .1)
 
 -- A body that is cut is a fault.
-body-stops : (m place : ℕ) (rest : List ℕ) (w : FormWalk) → bodyStep (Length m) place rest ≡ Stop w → isFault w ≡ true
+body-stops : (m place : ℕ) (rest : List ℕ) (w : Walk) → bodyStep (Length m) place rest ≡ Stop w → isFault w ≡ true
 body-stops m place rest w = go (leb m (length rest))
   where
     go : (t : Bool) → cond t (Whole m) (Stop (Missing (place + 1 + length rest))) ≡ Stop w → isFault w ≡ true
     go true e = not-whole (sym e)
     go false e = let same : w ≡ Missing (place + 1 + length rest) = cc in ap isFault same
 
-module _ (n products : ℕ) (earlier : List Factor) (place all : ℕ) (rest : List ℕ) (next : ℕ → FormWalk) where
+module _ (n products : ℕ) (earlier : List Factor) (place all : ℕ) (rest : List ℕ) (next : ℕ → Walk) where
   judge-goes : (s : Step) → bodyStep (Length 3) place rest ≡ s → goOn (judgeStep s n earlier place (factorOf rest)) next ≡ Laid all
       → (3 ≤ length rest) × (fits n (factorOf rest) ≡ true) × (agrees earlier (factorOf rest) ≡ true) × (next 3 ≡ Laid all)
   judge-goes (Stop fault) p e = faulty (body-stops 3 place rest fault p) e
@@ -143,7 +140,7 @@ unfolding walkedForm walkFrom
 laid [] all e = faulty refl e
 laid (byte ∷ rest) all e = go (kindOf byte) refl rest e
   where
-    first : (rest : List ℕ) (next : ℕ → FormWalk) (s : Step) → bodyStep (Length 1) 0 rest ≡ s → goOn (variablesStep s rest) next ≡ Laid all → (1 ≤ length rest) × (badCount (getD rest 0 0) ≡ false) × (next 1 ≡ Laid all)
+    first : (rest : List ℕ) (next : ℕ → Walk) (s : Step) → bodyStep (Length 1) 0 rest ≡ s → goOn (variablesStep s rest) next ≡ Laid all → (1 ≤ length rest) × (badCount (getD rest 0 0) ≡ false) × (next 1 ≡ Laid all)
     first rest next (Stop fault) p e = faulty (body-stops 1 0 rest fault p) e
     first rest next (Whole m) p e =
         let b = body-length 1 0 rest m p in
@@ -193,7 +190,7 @@ is-form l = ap isFault (walk-laid l)
 pub form-laid : (bytes : List ℕ) → IsForm bytes → (all : ℕ) × LaidAs bytes all
 form-laid bytes h = go (walkedForm bytes) refl h
   where
-    go : (found : FormWalk) → walkedForm bytes ≡ found → isFault found ≡ false → (all : ℕ) × LaidAs bytes all
+    go : (found : Walk) → walkedForm bytes ≡ found → isFault found ≡ false → (all : ℕ) × LaidAs bytes all
     go (Laid all) e h = (all, laid bytes all e)
     go (WrongKind place) e h = clash refl h
     go (Missing place) e h = clash refl h

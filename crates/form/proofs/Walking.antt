@@ -8,59 +8,29 @@ use Prim.Native.Nat.{ℕ, zero, suc, _≤_, _<_, _+_, _-_}
 use native.Mathlib.Nat.{le-of-suc-le-suc, not-suc-le-zero}
 use native.Mathlib.Numerals.{add-one}
 use native.Mathlib.Omega.{arith}
-use lib.Dec.{leb, ltb, eqb}
-use borrow.Author.Tests.{leb-true, ltb-true}
+use lib.Dec.{ltb, eqb}
+use borrow.Author.Tests.{ltb-true}
 use lib.ListN.{length, drop, getD, length-drop}
 use lib.Seq.{drop-cons, drop-drop, getD-drop}
 use Rattle.gf2.proofs.Logic.{and-true}
 use Rattle.gf2.proofs.Finite.{mem-snoc, snoc-mem}
 use Rattle.records.specs.declared.Kind.{Kind}
 use Rattle.records.specs.declared.Kind.the-variants.{Variables, Product, Factor as FactorKind, End, On, Free, Unknown}
-use Rattle.records.specs.declared.Body.{Body}
-use Rattle.records.specs.declared.Body.the-variants.{Length, Unknown as NoLength}
 use Rattle.records.specs.Kinds.{kindOf, bodyOf}
 use Rattle.table.specs.Table.{badCount}
 use Rattle.product.specs.Product.{Factor, factor, AllFit, fits, apartMasks, apart, agrees}
 use Rattle.product.proofs.Product.{fits-is}
-use Rattle.form.specs.declared.FormWalk.{FormWalk}
-use Rattle.form.specs.declared.FormWalk.the-variants.{WrongKind, Missing, WrongVariables, WrongFactor, NotCanonical, TooMany}
-use Rattle.form.specs.declared.Step.{Step}
-use Rattle.form.specs.declared.Step.the-variants.{Whole, Stop}
+use Rattle.records.specs.declared.Walk.{Walk}
+use Rattle.records.specs.declared.Walk.the-variants.{WrongKind, Missing, WrongVariables, WrongFactor, NotCanonical, TooMany}
+use Rattle.records.specs.declared.Step.{Step}
+use Rattle.records.specs.declared.Step.the-variants.{Whole, Stop}
+use Rattle.records.specs.Walks.{bodyStep, endStep}
+use Rattle.records.proofs.Whole.{body-length, failed-test, not-whole, passed-test}
 use Rattle.form.specs.declared.Counts.{Counts}
 use Rattle.form.specs.Form.{maxProducts}
 use Rattle.form.specs.Decoding.{factorOf}
-use Rattle.form.specs.Walk.{bodyStep, variablesStep, firstStep, productStep, judgeStep, factorStep, endStep, Behind, behind, recordStep, passed, walkFrom, walkedForm}
+use Rattle.form.specs.Walk.{variablesStep, firstStep, productStep, judgeStep, factorStep, Behind, behind, recordStep, passed, walkFrom, walkedForm}
 use Rattle.form.specs.Counting.{factorLength, factorsBefore, behindBy, countsAfter, Counted}
-
--- A whole record is not the end of the walk.
-pub not-whole : {A : Type 0} {w : FormWalk} {l : ℕ} → Stop w ≡ Whole l → A
-not-whole p = let z : _≡_ {A = ℕ} 0 1 = cc in absurd (omega arith)
-
--- A test in front of a step that ends the walk passed.
-pub passed-test : {l : ℕ} (t : Bool) (s : Step) (w : FormWalk) → cond t s (Stop w) ≡ Whole l → (t ≡ true) × (s ≡ Whole l)
-passed-test true s w e = (refl, e)
-passed-test false s w e = not-whole e
-
-pub failed-test : {l : ℕ} (t : Bool) (s : Step) (w : FormWalk) → cond t (Stop w) s ≡ Whole l → (t ≡ false) × (s ≡ Whole l)
-failed-test true s w e = not-whole e
-failed-test false s w e = (refl, e)
-
--- A body that is whole has the length that its kind fixes, and that many bytes are there.
-pub body-whole : (b : Body) (place : ℕ) (rest : List ℕ) (l : ℕ) → bodyStep b place rest ≡ Whole l → (b ≡ Length l) × (l ≤ length rest)
-body-whole NoLength place rest l e = not-whole e
-body-whole (Length m) place rest l e =
-    let h = passed-test (leb m (length rest)) (Whole m) (Missing (place + 1 + length rest)) e in
-    let same : m ≡ l = cc (h .1) in
-    (ap Length same, subst (λ (k : ℕ). k ≤ length rest) same (leb-true m (length rest) (h .0)))
-
--- A body that is whole has a given length.
-pub body-length : (m place : ℕ) (rest : List ℕ) (l : ℕ) → bodyStep (Length m) place rest ≡ Whole l → (l ≡ m) × (m ≤ length rest)
-body-length m place rest l e =
-    let h = body-whole (Length m) place rest l e in
-    let same : l ≡ m = cc (h .0) in
-    (same, subst (λ (k : ℕ). k ≤ length rest) same (h .1))
-
--- ---- each record, once it is whole
 
 -- The first: its body is one byte, and n is that of a table.
 pub first-whole : (k : Kind) (rest : List ℕ) (l : ℕ) → firstStep k rest ≡ Whole l → (l ≡ 1) × (1 ≤ length rest) × (badCount (getD rest 0 0) ≡ false) × (k ≡ Variables)
@@ -146,7 +116,7 @@ module _ (n : ℕ) (s : List ℕ) (b : Behind) (place : ℕ) (h : place < length
   opened : drop place s ≡ getD s place 0 ∷ drop (place + 1) s
   opened = rw (add-one, drop-cons s place 0)
 
-  pub walk-ends : (w : FormWalk) → recordStep n b (kindOf (getD s place 0)) place (drop (place + 1) s) ≡ Stop w → walkFrom n 0 b place (drop place s) ≡ w
+  pub walk-ends : (w : Walk) → recordStep n b (kindOf (getD s place 0)) place (drop (place + 1) s) ≡ Stop w → walkFrom n 0 b place (drop place s) ≡ w
   unfolding walkFrom
   walk-ends w e = rw (opened, e)
 
@@ -165,7 +135,7 @@ unfolding walkedForm
 walk-none [] h = refl
 walk-none (c ∷ rest) h = absurd (omega arith)
 
-pub first-ends : (s : List ℕ) (w : FormWalk) → 0 < length s → firstStep (kindOf (getD s 0 0)) (drop 1 s) ≡ Stop w → walkedForm s ≡ w
+pub first-ends : (s : List ℕ) (w : Walk) → 0 < length s → firstStep (kindOf (getD s 0 0)) (drop 1 s) ≡ Stop w → walkedForm s ≡ w
 unfolding walkedForm
 first-ends [] w h e = absurd (not-suc-le-zero h)
 first-ends (c ∷ rest) w h e = rw e

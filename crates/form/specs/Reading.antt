@@ -1,14 +1,13 @@
 -- When the bytes of a form are refused and with which number, and the answers of the calls that read a form
 -- (document 01, "Refusal numbers").
 use mathlib.Core.Path.{_≡_}
-use mathlib.Core.Bool.{Bool, true, false}
-use mathlib.Core.List.{List, [], _∷_, _++_}
+use mathlib.Core.Bool.{false}
+use mathlib.Core.List.{List, _++_}
 use Prim.Native.Nat.{ℕ}
 use lib.ListN.{length}
-use Rattle.table.specs.Refusal.{Test, test, firstFault, layoutFault}
+use Rattle.table.specs.Refusal.{Test}
 use Rattle.table.specs.Decision.{decide, roomAfter, roomTest}
-use Rattle.form.specs.declared.FormWalk.{FormWalk}
-use Rattle.form.specs.declared.FormWalk.the-variants.{Laid, WrongKind, Missing, WrongVariables, WrongFactor, NotCanonical, WrongCount, After, TooMany}
+use Rattle.records.specs.Walks.{isFault, layoutTests, layoutOf}
 use Rattle.form.specs.declared.FormPoints.{FormPoints}
 use Rattle.form.specs.declared.FormRewrite.{FormRewrite}
 use Rattle.form.specs.Form.{formPoints}
@@ -16,33 +15,13 @@ use Rattle.form.specs.Encoding.{encodeForm}
 use Rattle.form.specs.Decoding.{formVariables, decodeForm}
 use Rattle.form.specs.Walk.{walkedForm}
 
--- The walk met a fault.
-abbrev pub isFault : FormWalk → Bool
-isFault (Laid products) = false
-isFault (WrongKind place) = true
-isFault (Missing place) = true
-isFault (WrongVariables place) = true
-isFault (WrongFactor place) = true
-isFault (NotCanonical place) = true
-isFault (WrongCount place) = true
-isFault (After place) = true
-isFault (TooMany place) = true
-
 -- The bytes are a form. That they are so exactly if they encode a valid form is `form-exactly`.
 abbrev pub IsForm : List ℕ → Type 0
 IsForm bytes = isFault (walkedForm bytes) ≡ false
 
--- The tests of a form's bytes: document 01 has one number for every fault that the walk meets; document 02, No. 3 gives each its own.
-abbrev pub formTests : FormWalk → List Test
-formTests found = test layoutFault (isFault found) ∷ []
-
--- The refusal number of what the walk found, or 0.
-unfoldable pub formLayoutOf : FormWalk → ℕ
-formLayoutOf found = firstFault (formTests found)
-
 -- The refusal of a form's bytes, or 0.
 abbrev pub formFault : List ℕ → ℕ
-formFault bytes = formLayoutOf (walkedForm bytes)
+formFault bytes = layoutOf (walkedForm bytes)
 
 -- The points of the form that the bytes stand for, rising.
 abbrev pub pointsOf : List ℕ → List ℕ
@@ -50,7 +29,7 @@ pointsOf bytes = formPoints (decodeForm bytes)
 
 -- The tests of reading the points into a lent room: those of the form's bytes, then that the points are more than the room has places.
 abbrev pub pointsTests : List ℕ → List ℕ → List Test
-pointsTests bytes room = formTests (walkedForm bytes) ++ roomTest (pointsOf bytes) room
+pointsTests bytes room = layoutTests (walkedForm bytes) ++ roomTest (pointsOf bytes) room
 
 -- The numbers returned with the points: n, and how many points there are.
 abbrev pub acceptedPoints : List ℕ → FormPoints
@@ -74,7 +53,7 @@ rewritten bytes = encodeForm (decodeForm bytes)
 
 -- The tests of writing it to a lent room: those of the form's bytes, then that it is longer than the room.
 abbrev pub rewriteTests : List ℕ → List ℕ → List Test
-rewriteTests bytes room = formTests (walkedForm bytes) ++ roomTest (rewritten bytes) room
+rewriteTests bytes room = layoutTests (walkedForm bytes) ++ roomTest (rewritten bytes) room
 
 -- The number returned with it is its length.
 abbrev pub acceptedRewrite : List ℕ → FormRewrite

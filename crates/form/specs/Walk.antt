@@ -3,27 +3,20 @@
 use mathlib.Core.Bool.{cond}
 use mathlib.Core.List.{List, [], _∷_, _++_}
 use Prim.Native.Nat.{ℕ, zero, suc, _+_}
-use lib.Dec.{eqb, leb, ltb}
-use lib.ListN.{length, getD, drop}
+use lib.Dec.{eqb, ltb}
+use lib.ListN.{getD}
 use Rattle.records.specs.declared.Kind.{Kind}
 use Rattle.records.specs.declared.Kind.the-variants.{Variables, Product, Factor as FactorKind, End, On, Free, Unknown}
-use Rattle.records.specs.declared.Body.{Body}
-use Rattle.records.specs.declared.Body.the-variants.{Length, Unknown as NoLength}
-use Rattle.records.specs.Kinds.{kindOf, bodyOf, wordOf}
+use Rattle.records.specs.Kinds.{kindOf, bodyOf}
 use Rattle.table.specs.Table.{badCount}
 use Rattle.product.specs.Product.{Factor, fits, agrees}
-use Rattle.form.specs.declared.FormWalk.{FormWalk}
-use Rattle.form.specs.declared.FormWalk.the-variants.{Laid, WrongKind, Missing, WrongVariables, WrongFactor, NotCanonical, WrongCount, After, TooMany}
-use Rattle.form.specs.declared.Step.{Step}
-use Rattle.form.specs.declared.Step.the-variants.{Whole, Stop}
+use Rattle.records.specs.declared.Walk.{Walk}
+use Rattle.records.specs.declared.Walk.the-variants.{WrongKind, Missing, WrongVariables, WrongFactor, NotCanonical, TooMany}
+use Rattle.records.specs.declared.Step.{Step}
+use Rattle.records.specs.declared.Step.the-variants.{Whole, Stop}
+use Rattle.records.specs.Walks.{bodyStep, endStep, goOn}
 use Rattle.form.specs.Form.{maxProducts}
 use Rattle.form.specs.Decoding.{factorOf}
-
--- The body of the record whose kind stands at the place, before the bytes that follow that kind: it is judged only when all of it is there,
--- and a cut one is missing bytes at the length of the input (document 02, No. 3).
-abbrev pub bodyStep : Body → ℕ → List ℕ → Step
-bodyStep (Length l) place rest = cond (leb l (length rest)) (Whole l) (Stop (Missing (place + 1 + length rest)))
-bodyStep NoLength place rest = Stop (WrongKind place)
 
 -- n, once its byte is there: 1 to the largest number of variables, or a fault at the byte (document 02, No. 3, refusal 22).
 abbrev pub variablesStep : Step → List ℕ → Step
@@ -55,18 +48,6 @@ abbrev pub factorStep : ℕ → ℕ → List Factor → ℕ → List ℕ → Ste
 factorStep n products earlier place rest =
     cond (eqb products 0) (Stop (WrongKind place)) (judgeStep (bodyStep (bodyOf FactorKind) place rest) n earlier place (factorOf rest))
 
--- After the end record nothing may stand.
-abbrev pub afterEnd : ℕ → ℕ → List ℕ → FormWalk
-afterEnd products place [] = Laid products
-afterEnd products place (byte ∷ rest) = After place
-
--- The body of the end record, once all of it is there, is the number of products before it; then nothing may follow.
-abbrev pub endStep : Step → ℕ → ℕ → List ℕ → Step
-endStep (Stop fault) products place rest = Stop fault
-endStep (Whole l) products place rest =
-    Stop
-    (cond (eqb (wordOf (getD rest 0 0) (getD rest 1 0)) products) (afterEnd products (place + 1 + l) (drop l rest)) (WrongCount (place + 1)))
-
 -- What lies behind a place of the walk: the number of products, and the factors of the last of them.
 pub record Behind : Type 0 where
   pub products : ℕ
@@ -96,19 +77,14 @@ passed On rest b = b
 passed Free rest b = b
 passed Unknown rest b = b
 
--- A whole record is passed, and the walk goes on; otherwise it ends.
-abbrev pub goOn : Step → (ℕ → FormWalk) → FormWalk
-goOn (Whole l) next = next l
-goOn (Stop end) next = end
-
 -- The walk over the bytes from a place on, for n variables, once the given number of bytes of a body is passed.
-unfoldable pub walkFrom : ℕ → ℕ → Behind → ℕ → List ℕ → FormWalk
+unfoldable pub walkFrom : ℕ → ℕ → Behind → ℕ → List ℕ → Walk
 walkFrom n skip b place [] = Missing place
 walkFrom n zero b place (byte ∷ rest) =
     goOn (recordStep n b (kindOf byte) place rest) (λ l. walkFrom n l (passed (kindOf byte) rest b) (place + 1) rest)
 walkFrom n (suc skip) b place (byte ∷ rest) = walkFrom n skip b (place + 1) rest
 
 -- The walk over a whole input: the first record, products with their factors, the end.
-unfoldable pub walkedForm : List ℕ → FormWalk
+unfoldable pub walkedForm : List ℕ → Walk
 walkedForm [] = Missing 0
 walkedForm (byte ∷ rest) = goOn (firstStep (kindOf byte) rest) (λ l. walkFrom (getD rest 0 0) l (behind 0 []) 1 rest)

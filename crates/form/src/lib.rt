@@ -7,16 +7,17 @@ ghost use Prim.Native.Nat.{ℕ, _+_, _≤_, _<_};
 ghost use lib.ListN.{length, getD, drop};
 ghost use Rattle.gf2.specs.Limits.{maxVariables};
 ghost use Rattle.gf2.specs.Finite.{select};
-ghost use Rattle.records.specs.Kinds.{bodyOf, kindOf};
+ghost use Rattle.records.specs.Kinds.{kindOf};
 ghost use Rattle.table.specs.Decision.{front};
 ghost use Rattle.product.specs.Product.{agrees, factor, factorAt, fits};
 ghost use Rattle.form.specs.Form.{formAt};
 ghost use Rattle.form.specs.Decoding.{decodeForm, factorOf};
-ghost use Rattle.form.specs.Reading.{IsForm, formFault, formLayoutOf, pointsAfter, pointsAnswer, rewriteAfter, rewriteAnswer};
-ghost use Rattle.form.specs.Walk.{behind, bodyStep, endStep, factorStep, firstStep, productStep, recordStep, walkFrom, walkedForm};
+ghost use Rattle.form.specs.Reading.{IsForm, formFault, pointsAfter, pointsAnswer, rewriteAfter, rewriteAnswer};
+ghost use Rattle.form.specs.Walk.{behind, factorStep, firstStep, productStep, recordStep, walkFrom, walkedForm};
 ghost use Rattle.form.specs.Counting.{Counted, behindBy, countsAfter, factorLength, factorsBefore};
-use records::Body;
 use records::Kind;
+use records::Step;
+use records::Walk;
 
 // The most products of a form, as `maxProducts` in specs/.
 pub const MAX_PRODUCTS: usize = 64;
@@ -27,25 +28,6 @@ const FIRST_PRODUCT: usize = 2;
 const PRODUCT_LENGTH: usize = 1;
 
 const FACTOR_LENGTH: usize = 4;
-
-// What the walk over the bytes finds: a form with a number of products, or the first fault with its place (document 02, No. 3).
-pub enum FormWalk {
-    Laid(usize),
-    WrongKind(usize),
-    Missing(usize),
-    WrongVariables(usize),
-    WrongFactor(usize),
-    NotCanonical(usize),
-    WrongCount(usize),
-    After(usize),
-    TooMany(usize),
-}
-
-// What the walk finds at one record: a whole one, with the length of its body, or how the walk ends.
-pub enum Step {
-    Whole(usize),
-    Stop(FormWalk),
-}
 
 // What lies behind the walk: how many products, and how many factors the last of them has.
 pub struct Counts {
@@ -68,21 +50,6 @@ pub struct FormRewrite {
     pub length: usize,
 }
 
-// The body of the record at the place.
-fn body_step(bytes: &[u8], place: usize, kind: Kind) -> Step
-    requires { ⌜ place < length (now bytes) ⌝ }
-    ensures { λ r. ⌜ r ≡ bodyStep (bodyOf kind) place (drop (place + 1) (now (bytes .entry))) ⌝ }
-{
-    let Body::Length(length) = records::body_of(kind) else {
-        return Step::Stop(FormWalk::WrongKind(place));
-    };
-    if length < bytes.len() - place {
-        Step::Whole(length)
-    } else {
-        Step::Stop(FormWalk::Missing(bytes.len()))
-    }
-}
-
 // The first record of a form, which gives n.
 fn first_step(bytes: &[u8]) -> Step
     requires { ⌜ 0 < length (now bytes) ⌝ }
@@ -90,14 +57,14 @@ fn first_step(bytes: &[u8]) -> Step
 {
     let kind = records::kind_of(bytes[0]);
     let Kind::Variables = kind else {
-        return Step::Stop(FormWalk::WrongKind(0));
+        return Step::Stop(Walk::WrongKind(0));
     };
-    let body = body_step(bytes, 0, Kind::Variables);
+    let body = records::body_step(bytes, 0, Kind::Variables);
     let Step::Whole(length) = body else {
         return body;
     };
     if table::bad_count(bytes[1] as usize) {
-        return Step::Stop(FormWalk::WrongVariables(1));
+        return Step::Stop(Walk::WrongVariables(1));
     }
     Step::Whole(length)
 }
@@ -108,9 +75,9 @@ fn product_step(bytes: &[u8], products: usize, place: usize) -> Step
     ensures { λ r. ⌜ r ≡ productStep products place (drop (place + 1) (now (bytes .entry))) ⌝ }
 {
     if products < MAX_PRODUCTS {
-        body_step(bytes, place, Kind::Product)
+        records::body_step(bytes, place, Kind::Product)
     } else {
-        Step::Stop(FormWalk::TooMany(place))
+        Step::Stop(Walk::TooMany(place))
     }
 }
 
@@ -170,47 +137,20 @@ fn factor_step(bytes: &[u8], n: usize, counts: Counts, place: usize) -> Step
         ⌝ }
 {
     if counts.products == 0 {
-        return Step::Stop(FormWalk::WrongKind(place));
+        return Step::Stop(Walk::WrongKind(place));
     }
-    let body = body_step(bytes, place, Kind::Factor);
+    let body = records::body_step(bytes, place, Kind::Factor);
     let Step::Whole(length) = body else {
         return body;
     };
     let mask = mask_at(bytes, place);
     if !fits(n, bytes[place + 1], mask) {
-        return Step::Stop(FormWalk::WrongFactor(place + 1));
+        return Step::Stop(Walk::WrongFactor(place + 1));
     }
     if !agrees_before(bytes, n, counts, place, mask) {
-        return Step::Stop(FormWalk::NotCanonical(place + 1));
+        return Step::Stop(Walk::NotCanonical(place + 1));
     }
     Step::Whole(length)
-}
-
-// The end record at the place: the number of products before it, and nothing after.
-fn end_step(bytes: &[u8], products: usize, place: usize) -> Step
-    requires { ⌜ place < length (now bytes) ⌝ }
-    ensures { λ r.
-        ⌜
-        r
-        ≡ endStep
-        (bodyStep (bodyOf Kind.End) place (drop (place + 1) (now (bytes .entry))))
-        products
-        place
-        (drop (place + 1) (now (bytes .entry)))
-        ⌝ }
-{
-    let body = body_step(bytes, place, Kind::End);
-    let Step::Whole(length) = body else {
-        return body;
-    };
-    let next = place + 1 + length;
-    if records::word(bytes[place + 1], bytes[place + 2]) as usize != products {
-        Step::Stop(FormWalk::WrongCount(place + 1))
-    } else if next < bytes.len() {
-        Step::Stop(FormWalk::After(next))
-    } else {
-        Step::Stop(FormWalk::Laid(products))
-    }
 }
 
 // A record after the first, at the place.
@@ -231,8 +171,8 @@ fn record_step(bytes: &[u8], n: usize, counts: Counts, place: usize) -> Step
     match records::kind_of(bytes[place]) {
         Kind::Product => product_step(bytes, counts.products, place),
         Kind::Factor => factor_step(bytes, n, counts, place),
-        Kind::End => end_step(bytes, counts.products, place),
-        _ => Step::Stop(FormWalk::WrongKind(place)),
+        Kind::End => records::end_step(bytes, counts.products, place),
+        _ => Step::Stop(Walk::WrongKind(place)),
     }
 }
 
@@ -256,7 +196,7 @@ fn counts_after(bytes: &[u8], n: usize, counts: Counts, place: usize) -> Counts
 }
 
 // The walk over the records after the first, from the place on.
-fn walk_records(bytes: &[u8], n: usize, start: usize) -> FormWalk
+fn walk_records(bytes: &[u8], n: usize, start: usize) -> Walk
     requires { ⌜ (n ≤ maxVariables) × (start ≤ length (now bytes)) ⌝ }
     ensures { λ r. ⌜ r ≡ walkFrom n 0 (behind 0 []) start (drop start (now (bytes .entry))) ⌝ }
 {
@@ -276,15 +216,15 @@ fn walk_records(bytes: &[u8], n: usize, start: usize) -> FormWalk
             }
         }
     }
-    FormWalk::Missing(place)
+    Walk::Missing(place)
 }
 
 // The walk over the bytes of a form.
-pub fn walk_form(bytes: &[u8]) -> FormWalk
+pub fn walk_form(bytes: &[u8]) -> Walk
     ensures { λ r. ⌜ r ≡ walkedForm (now (bytes .entry)) ⌝ }
 {
     if bytes.len() == 0 {
-        return FormWalk::Missing(0);
+        return Walk::Missing(0);
     }
     match first_step(bytes) {
         Step::Stop(end) => end,
@@ -292,28 +232,11 @@ pub fn walk_form(bytes: &[u8]) -> FormWalk
     }
 }
 
-// The refusal number of what the walk found, or 0.
-fn form_layout(found: FormWalk) -> u8
-    ensures { λ r. ⌜ r ≡ formLayoutOf found ⌝ }
-{
-    match found {
-        FormWalk::Laid(_) => 0,
-        FormWalk::WrongKind(_) => table::LAYOUT_FAULT,
-        FormWalk::Missing(_) => table::LAYOUT_FAULT,
-        FormWalk::WrongVariables(_) => table::LAYOUT_FAULT,
-        FormWalk::WrongFactor(_) => table::LAYOUT_FAULT,
-        FormWalk::NotCanonical(_) => table::LAYOUT_FAULT,
-        FormWalk::WrongCount(_) => table::LAYOUT_FAULT,
-        FormWalk::After(_) => table::LAYOUT_FAULT,
-        FormWalk::TooMany(_) => table::LAYOUT_FAULT,
-    }
-}
-
 // The refusal of a form's bytes, or 0.
 pub fn form_fault(bytes: &[u8]) -> u8
     ensures { λ r. ⌜ r ≡ formFault (now (bytes .entry)) ⌝ }
 {
-    form_layout(walk_form(bytes))
+    records::layout_fault(walk_form(bytes))
 }
 
 // A product that held the point so far holds it with the factor at the place too.

@@ -3,7 +3,7 @@
 use mathlib.Core.Path.{_≡_, refl, sym, ap, ap₂, _∙_, subst}
 use mathlib.Core.Bool.{Bool, true, false}
 use mathlib.Core.Logic.{_⊎_, inl, inr, _≢_}
-use Prim.Native.Nat.{ℕ, zero, suc, _+_, _*_, _/_, _%_, _^_, _≤_, _<_}
+use Prim.Native.Nat.{ℕ, zero, suc, _+_, _/_, _%_, _^_, _≤_, _<_}
 use native.Mathlib.Nat.{eq-zero-or-pos, zero-div, div-eq-of-lt, div-add-mod', div-eq-of-lt-le, lt-of-not-le, mod-lt, zero-lt-suc, pos-of-ne-zero}
 use native.Mathlib.Numerals.{one-add}
 use native.Mathlib.Decide.{decLe, ℕ-discrete}
@@ -12,8 +12,8 @@ use lib.Arith.{lt-of-le-ne}
 use lib.Count.{leadingZeros, leading-top}
 use lib.Dec.{ltb, eqb}
 use lib.Pow.{pow-mono, shr-shr, pow-pos}
-use lib.Bits.{xor-self, xor-zero-r, xor-shr}
-use borrow.Author.Tests.{ltb-true, ltb-false, lt-ltb}
+use lib.Bits.{xor-zero-r, xor-shr}
+use borrow.Author.Tests.{ltb-true, ltb-false}
 use Rattle.gf2.specs.Bits.{_⊕_, _⊻_, bit, Highest, halvings, lead, hasLead}
 use Rattle.gf2.proofs.Logic.{clash, ltb-same}
 use Rattle.gf2.proofs.Xor.{xor-half, xor-low, two-digits, bit-xor, bit-big, bit-is, xor-cancel-l, xor-fix, xor-eq}

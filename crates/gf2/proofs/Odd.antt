@@ -1,17 +1,17 @@
 -- Laws of the parity of common bits: it is found by a count of ones, and it is linear in the point and in the mask. Read next: Span.
 use mathlib.Core.Path.{_≡_, refl, sym, ap, ap₂, _∙_}
-use mathlib.Core.Bool.{Bool, true, false, not, _&&_}
-use Prim.Native.Nat.{ℕ, zero, suc, _+_, _/_, _%_, _^_, _≤_, _<_}
-use native.Mathlib.Nat.{add-mod, mod-lt, zero-lt-suc}
+use mathlib.Core.Bool.{Bool, false, _&&_}
+use Prim.Native.Nat.{ℕ, zero, suc, _+_, _/_, _%_, _^_, _<_}
+use native.Mathlib.Nat.{add-mod, zero-lt-suc}
 use native.Mathlib.Omega.{arith}
 use lib.Dec.{eqb}
-use lib.Bits.{bitAnd, and-shr, and-mod, and-comm, and-zero-l}
+use lib.Bits.{bitAnd, and-shr, and-mod, and-comm}
 use lib.Count.{ones, ones-step}
 use lib.Pow.{pow-pos}
 use Rattle.gf2.specs.Bits.{_⊕_, _⊻_, bit}
 use Rattle.gf2.specs.Parity.{oddIn, odd}
 use Rattle.gf2.proofs.Logic.{⊻-assoc, ⊻-comm, ⊻-false, and-⊻}
-use Rattle.gf2.proofs.Xor.{two-digits, xor-half, bit-xor, bit-zero}
+use Rattle.gf2.proofs.Xor.{two-digits, xor-half, bit-xor}
 
 -- ---- a count of ones gives the parity of the bits taken one by one (document 02, No. 2)
 

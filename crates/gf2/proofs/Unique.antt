@@ -1,14 +1,13 @@
 -- A space has at most one reduced basis. Read next: Insert.
 use mathlib.Core.Path.{_≡_, refl, sym, ap₂, subst}
-use mathlib.Core.Bool.{true, false}
-use mathlib.Core.Logic.{_⊎_, inl, inr, _≢_}
+use mathlib.Core.Bool.{false}
+use mathlib.Core.Logic.{inl, inr, _≢_}
 use mathlib.Core.List.{List, [], _∷_}
 use Prim.Native.Nat.{ℕ, _≤_, _<_}
 use native.Mathlib.Nat.{le-of-eq, le-of-lt, le-antisymm, ne-of-gt, le-trans}
 use native.Mathlib.Decide.{ℕ-discrete}
 use native.Mathlib.Omega.{arith}
 use Rattle.gf2.specs.Bits.{_⊕_, hasLead}
-use Rattle.gf2.specs.Finite.{Mem}
 use Rattle.gf2.specs.Span.{Span}
 use Rattle.gf2.specs.Basis.{Reduced}
 use Rattle.gf2.proofs.Logic.{clash}

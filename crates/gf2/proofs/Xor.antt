@@ -1,9 +1,9 @@
 -- Laws of XOR and of single bits: the bits of a XOR, numbers with the same bits, associativity and cancellation, bits above a bound.
 -- Read next: Leads.
 use mathlib.Core.Path.{_≡_, refl, sym, ap, _∙_}
-use mathlib.Core.Bool.{Bool, true, false, not, _&&_}
+use mathlib.Core.Bool.{true, false, _&&_}
 use mathlib.Core.Logic.{_≢_}
-use Prim.Native.Nat.{ℕ, zero, suc, _-_, _/_, _%_, _^_, _≤_, _<_}
+use Prim.Native.Nat.{ℕ, zero, suc, _-_, _/_, _%_, _^_, _<_}
 use native.Mathlib.Nat.{div-one, le-of-suc-le-suc, lt-of-not-le, mod-lt, zero-lt-suc}
 use native.Mathlib.Numerals.{one-add}
 use native.Mathlib.Decide.{decLe}

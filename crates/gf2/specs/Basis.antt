@@ -1,7 +1,7 @@
 -- The reduced basis: what it is, how one vector is put into it, and the reduced basis of a set that a test gives
 -- (document 01, "Points and spaces").
 use mathlib.Core.Path.{_≡_}
-use mathlib.Core.Bool.{Bool, true, false, not, cond, _&&_, _||_}
+use mathlib.Core.Bool.{Bool, false, not, cond, _&&_, _||_}
 use mathlib.Core.List.{List, [], _∷_, _++_, map}
 use Prim.Native.Nat.{ℕ, zero, suc, _^_, _<_}
 use lib.Dec.{ltb, eqb}

@@ -1,10 +1,9 @@
 -- The answers of `complete` and `analyse`, from a completed table. Read next: AffineSpaces.
-use mathlib.Core.Path.{_≡_, refl, sym, ap, ap₂, _∙_}
+use mathlib.Core.Path.{_≡_, ap, _∙_}
 use mathlib.Core.Logic.{_≢_}
 use mathlib.Core.List.{List}
 use Prim.Native.Nat.{ℕ, _^_, _≤_, _<_}
 use lib.ListN.{length}
-use Rattle.gf2.specs.Finite.{select}
 use Rattle.gf2.specs.Basis.{leadMask, canonicalPlaces, variablesAt}
 use Rattle.gf2.proofs.Finite.{select-ext}
 use Rattle.basis.specs.declared.Basis.{Basis}

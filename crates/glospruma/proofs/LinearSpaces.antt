@@ -1,17 +1,16 @@
 -- The answer of `linear_space`, refused and accepted. Read next: Completions.
-use mathlib.Core.Path.{_≡_, refl, sym, ap, ap₂, _∙_}
-use mathlib.Core.Bool.{Bool, true, false}
+use mathlib.Core.Path.{_≡_, sym, ap, _∙_}
+use mathlib.Core.Bool.{Bool}
 use mathlib.Core.Logic.{_≢_}
 use mathlib.Core.List.{List, []}
 use Prim.Native.Nat.{ℕ, _^_, _≤_, _<_}
 use native.Mathlib.Omega.{arith}
-use lib.ListN.{length}
 use lib.Pow.{pow-mono}
 use Rattle.gf2.specs.Limits.{maxVariables}
 use Rattle.gf2.specs.Finite.{holds, In}
 use Rattle.basis.specs.declared.Basis.{Basis}
 use Rattle.basis.specs.Reduced.{basisOf, Built}
-use Rattle.table.specs.Table.{tableTests, tableFault, Accepted}
+use Rattle.table.specs.Table.{tableFault}
 use Rattle.table.specs.Flags.{flagsOf}
 use Rattle.table.proofs.Decide.{decide-accepted, decide-refused}
 use Rattle.table.proofs.Flags.{flags-at}

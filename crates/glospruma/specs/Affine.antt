@@ -1,5 +1,4 @@
 -- The call `affine`: the smallest affine space of the on points (document 01, "Points and spaces"; free points play no part).
-use mathlib.Core.Bool.{Bool}
 use mathlib.Core.List.{List, [], _∷_, _++_}
 use Prim.Native.Nat.{ℕ}
 use lib.Dec.{eqb}

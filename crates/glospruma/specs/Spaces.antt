@@ -1,5 +1,4 @@
 -- The calls on the linear space of a table: `linear_space`, `complete` and `analyse` (document 01, "Points and spaces"). Read next: Affine.
-use mathlib.Core.Bool.{Bool}
 use mathlib.Core.List.{List, [], _++_}
 use Prim.Native.Nat.{ℕ}
 use lib.ListN.{length}

@@ -1,2 +1,3 @@
 -- Laws about the definitions in specs/.
 pub mod KindBytes
+pub mod Whole

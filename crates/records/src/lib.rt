@@ -1,7 +1,10 @@
 // Records of the written form (document 01, "The written form"): one byte of kind, then a body whose length the kind fixes; wider
 // numbers are low byte first. The readers of stored tables and of forms both go by these functions. Read next: specs/Kinds.antt.
 ghost use mathlib.Core.Path.{_≡_};
+ghost use Prim.Native.Nat.{_+_, _<_};
+ghost use lib.ListN.{length, drop};
 ghost use Rattle.records.specs.Kinds.{kindOf, bodyOf, wordOf};
+ghost use Rattle.records.specs.Walks.{bodyStep, endStep, layoutOf};
 
 // The kind bytes, as the constants of the same names in specs/.
 pub const VARIABLES_KIND: u8 = 0x4E;
@@ -68,4 +71,83 @@ pub fn word(low: u8, high: u8) -> u16
     ensures { λ r. ⌜ r ≡ wordOf low high ⌝ }
 {
     (low as u16) + 256 * (high as u16)
+}
+
+// What a walk over the bytes of a table or a form finds: what is asked for, with its number of points or products, or the first fault from
+// the left with its place (document 02, No. 3).
+pub enum Walk {
+    Laid(usize),
+    WrongKind(usize),
+    Missing(usize),
+    WrongVariables(usize),
+    WrongFactor(usize),
+    NotCanonical(usize),
+    WrongCount(usize),
+    After(usize),
+    TooMany(usize),
+}
+
+// What a walk finds at one record: a whole one, with the length of its body, or how the walk ends.
+pub enum Step {
+    Whole(usize),
+    Stop(Walk),
+}
+
+// The body of the record at the place.
+pub fn body_step(bytes: &[u8], place: usize, kind: Kind) -> Step
+    requires { ⌜ place < length (now bytes) ⌝ }
+    ensures { λ r. ⌜ r ≡ bodyStep (bodyOf kind) place (drop (place + 1) (now (bytes .entry))) ⌝ }
+{
+    let Body::Length(length) = body_of(kind) else {
+        return Step::Stop(Walk::WrongKind(place));
+    };
+    if length < bytes.len() - place {
+        Step::Whole(length)
+    } else {
+        Step::Stop(Walk::Missing(bytes.len()))
+    }
+}
+
+// The end record at the place: the number of points or products before it, and nothing after.
+pub fn end_step(bytes: &[u8], count: usize, place: usize) -> Step
+    requires { ⌜ place < length (now bytes) ⌝ }
+    ensures { λ r.
+        ⌜
+        r
+        ≡ endStep
+        (bodyStep (bodyOf Kind.End) place (drop (place + 1) (now (bytes .entry))))
+        count
+        place
+        (drop (place + 1) (now (bytes .entry)))
+        ⌝ }
+{
+    let body = body_step(bytes, place, Kind::End);
+    let Step::Whole(length) = body else {
+        return body;
+    };
+    let next = place + 1 + length;
+    if word(bytes[place + 1], bytes[place + 2]) as usize != count {
+        Step::Stop(Walk::WrongCount(place + 1))
+    } else if next < bytes.len() {
+        Step::Stop(Walk::After(next))
+    } else {
+        Step::Stop(Walk::Laid(count))
+    }
+}
+
+// The refusal number of what a walk found, or 0.
+pub fn layout_fault(found: Walk) -> u8
+    ensures { λ r. ⌜ r ≡ layoutOf found ⌝ }
+{
+    match found {
+        Walk::Laid(_) => 0,
+        Walk::WrongKind(_) => table::LAYOUT_FAULT,
+        Walk::Missing(_) => table::LAYOUT_FAULT,
+        Walk::WrongVariables(_) => table::LAYOUT_FAULT,
+        Walk::WrongFactor(_) => table::LAYOUT_FAULT,
+        Walk::NotCanonical(_) => table::LAYOUT_FAULT,
+        Walk::WrongCount(_) => table::LAYOUT_FAULT,
+        Walk::After(_) => table::LAYOUT_FAULT,
+        Walk::TooMany(_) => table::LAYOUT_FAULT,
+    }
 }

@@ -10,10 +10,11 @@ use Rattle.table.specs.Refusal.{Numbered, NoneApplies}
 use Rattle.table.specs.Table.{Accepted, tableFault}
 use Rattle.table.proofs.Refusal.{no-fault, numbered, fault-before}
 use Rattle.table.proofs.Table.{good-count, inside, rising, no-refusal}
-use Rattle.stored.specs.declared.Walk.{Walk}
+use Rattle.records.specs.declared.Walk.{Walk}
+use Rattle.records.specs.Walks.{isFault, layoutTests, layoutOf}
 use Rattle.stored.specs.Layout.{walked}
 use Rattle.stored.specs.Marks.{marks, storedVariables, storedPoints, storedOn, storedFree}
-use Rattle.stored.specs.Stored.{isFault, LaidOut, layoutTests, layoutOf, storedTests, storedFault}
+use Rattle.stored.specs.Stored.{LaidOut, storedTests, storedFault}
 use Rattle.stored.proofs.Points.{points-mem, points-rising, points-apart}
 
 pub stored-numbered : (bytes : List ℕ) → Numbered (storedTests bytes)

@@ -12,11 +12,12 @@ use Rattle.table.specs.Flags.{maxPoints}
 use Rattle.records.specs.declared.Kind.the-variants.{End}
 use Rattle.records.specs.Kinds.{variablesKind, endKind, kindOf, wordOf, lowByte, highByte, Bytes, encodeEnd}
 use Rattle.records.proofs.KindBytes.{kind-byte, word-of-bytes, low-of-word, high-of-word}
-use Rattle.stored.specs.declared.Walk.the-variants.{Laid}
+use Rattle.records.specs.declared.Walk.the-variants.{Laid}
+use Rattle.records.specs.Walks.{isFault}
 use Rattle.stored.specs.Layout.{walked, longestTable}
 use Rattle.stored.specs.Marks.{Mark, recordMarks, marks, storedVariables}
 use Rattle.stored.specs.Encoding.{markKind, encodeMarks, encodeTable, Encoded}
-use Rattle.stored.specs.Stored.{isFault, LaidOut}
+use Rattle.stored.specs.Stored.{LaidOut}
 use Rattle.stored.proofs.Laying.{pointKind, Laying, end, point, LaidAs, table, laid, walk-laid, laid-few, laid-marks, laid-as, marks-point, marks-end}
 
 -- ---- what is written is read

@@ -18,12 +18,14 @@ use Rattle.records.specs.declared.Kind.the-variants.{Variables, Product, Factor
 use Rattle.records.specs.declared.Body.the-variants.{Length}
 use Rattle.records.specs.Kinds.{kindOf, wordOf, onKind}
 use Rattle.records.proofs.KindBytes.{kind-byte}
-use Rattle.stored.specs.declared.Walk.{Walk}
-use Rattle.stored.specs.declared.Walk.the-variants.{Laid, WrongKind, Missing, WrongCount, After}
-use Rattle.stored.specs.declared.Step.the-variants.{Stop}
-use Rattle.stored.specs.Layout.{bodyStep, afterEnd, firstStep, laterStep, recordStep, goOn, walkFrom, walked, longestTable}
+use Rattle.records.specs.declared.Walk.{Walk}
+use Rattle.records.specs.declared.Walk.the-variants.{Laid, WrongKind, Missing, WrongVariables, WrongFactor, NotCanonical, WrongCount, After, TooMany}
+use Rattle.records.specs.declared.Step.the-variants.{Stop}
+use Rattle.records.specs.Walks.{bodyStep, afterEnd, goOn, isFault}
+use Rattle.records.proofs.Whole.{faulty}
+use Rattle.stored.specs.Layout.{firstStep, laterStep, recordStep, walkFrom, walked, longestTable}
 use Rattle.stored.specs.Marks.{Mark, mark, noMark, recordMarks, marks, storedPoints}
-use Rattle.stored.specs.Stored.{isFault, LaidOut}
+use Rattle.stored.specs.Stored.{LaidOut}
 
 -- The kind of a record of a point that is on, or free.
 abbrev pub pointKind : Bool → Kind
@@ -40,10 +42,6 @@ pub data Laying : List ℕ → ℕ → ℕ → ℕ → Type 0 where
 -- The bytes are those of a table with that many records of points.
 pub data LaidAs : List ℕ → ℕ → Type 0 where
   table : {byte n : ℕ} {rest : List ℕ} {all : ℕ} → kindOf byte ≡ Variables → Laying rest 2 0 all → LaidAs (byte ∷ n ∷ rest) all
-
--- A fault is no table.
-pub faulty : {A : Type 0} {found : Walk} {count : ℕ} → isFault found ≡ true → found ≡ Laid count → A
-faulty p e = clash p (ap isFault e)
 
 -- ---- from the walk to the records
 
@@ -217,6 +215,10 @@ laid-out bytes = go (walked bytes) refl
     go (Missing place) e h = clash (ap isFault e) h
     go (WrongCount place) e h = clash (ap isFault e) h
     go (After place) e h = clash (ap isFault e) h
+    go (WrongVariables place) e h = clash (ap isFault e) h
+    go (WrongFactor place) e h = clash (ap isFault e) h
+    go (NotCanonical place) e h = clash (ap isFault e) h
+    go (TooMany place) e h = clash (ap isFault e) h
 
 pub laid-as : (bytes : List ℕ) → LaidOut bytes → LaidAs bytes (length (marks bytes))
 laid-as bytes h = laid bytes (length (marks bytes)) (laid-out bytes h)

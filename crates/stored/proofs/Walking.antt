@@ -1,38 +1,28 @@
 -- Laws of specs.Layout: what a whole record says of the bytes that are left.
-use mathlib.Core.Path.{_≡_, refl, ap, _∙_, subst}
+use mathlib.Core.Path.{_≡_, refl, ap, _∙_}
 use mathlib.Core.Bool.{Bool, true, false, cond}
 use mathlib.Core.List.{List, [], _∷_}
 use Prim.Native.Nat.{ℕ, zero, suc, _≤_, _<_, _+_}
 use native.Mathlib.Nat.{le-of-suc-le-suc, not-suc-le-zero}
 use native.Mathlib.Omega.{arith}
-use lib.Dec.{leb, eqb}
-use borrow.Author.Tests.{leb-true}
+use lib.Dec.{eqb}
 use native.Mathlib.Numerals.{add-one}
 use lib.ListN.{length, drop, getD}
 use lib.Seq.{drop-cons, drop-drop}
 use Rattle.records.specs.declared.Kind.{Kind}
 use Rattle.records.specs.declared.Kind.the-variants.{Variables, Product, Factor, End, On, Free, Unknown}
-use Rattle.records.specs.declared.Body.{Body}
-use Rattle.records.specs.declared.Body.the-variants.{Length, Unknown as NoLength}
 use Rattle.records.specs.Kinds.{kindOf, bodyOf}
-use Rattle.stored.specs.declared.Walk.{Walk}
-use Rattle.stored.specs.declared.Walk.the-variants.{WrongKind, Missing, After}
-use Rattle.stored.specs.declared.Step.{Step}
-use Rattle.stored.specs.declared.Step.the-variants.{Whole, Stop}
-use Rattle.stored.specs.Layout.{bodyStep, endStep, firstStep, laterStep, recordStep, walkFrom, walked, longestTable}
+use Rattle.records.specs.declared.Walk.{Walk}
+use Rattle.records.specs.declared.Walk.the-variants.{WrongKind, Missing, After}
+use Rattle.records.specs.declared.Step.{Step}
+use Rattle.records.specs.declared.Step.the-variants.{Whole, Stop}
+use Rattle.records.specs.Walks.{bodyStep, endStep}
+use Rattle.records.proofs.Whole.{body-whole}
+use Rattle.stored.specs.Layout.{firstStep, laterStep, recordStep, walkFrom, walked, longestTable}
 
 -- A whole record is not the end of the walk.
 not-whole : {A : Type 0} (s : Step) {w : Walk} {l : ℕ} → s ≡ Stop w → s ≡ Whole l → A
 not-whole s p q = let z : _≡_ {A = ℕ} 0 1 = cc in absurd (omega arith)
-
--- A body that is whole has the length that its kind fixes, and that many bytes are there.
-pub body-whole : (b : Body) (place : ℕ) (rest : List ℕ) (l : ℕ) → bodyStep b place rest ≡ Whole l → (b ≡ Length l) × (l ≤ length rest)
-body-whole NoLength place rest l e = not-whole (Stop (WrongKind place)) refl e
-body-whole (Length m) place rest l e = go (leb m (length rest)) refl e
-  where
-    go : (t : Bool) → leb m (length rest) ≡ t → cond t (Whole m) (Stop (Missing (place + 1 + length rest))) ≡ Whole l → (Length m ≡ Length l) × (l ≤ length rest)
-    go true p q = let same : m ≡ l = cc in (ap Length same, subst (λ (k : ℕ). k ≤ length rest) same (leb-true m (length rest) p))
-    go false p q = not-whole (Stop (Missing (place + 1 + length rest))) refl q
 
 -- A later record that is whole leaves its body behind.
 later-whole : (k : Kind) (count place : ℕ) (rest : List ℕ) (l : ℕ) → laterStep k count place rest ≡ Whole l → l ≤ length rest

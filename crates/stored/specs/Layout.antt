@@ -3,39 +3,20 @@
 use mathlib.Core.Bool.{cond}
 use mathlib.Core.List.{List, [], _∷_}
 use Prim.Native.Nat.{ℕ, zero, suc, _+_, _*_}
-use lib.Dec.{eqb, leb}
-use lib.ListN.{length, getD, drop}
+use lib.Dec.{eqb}
 use Rattle.records.specs.declared.Kind.{Kind}
 use Rattle.records.specs.declared.Kind.the-variants.{Variables, Product, Factor, End, On, Free, Unknown}
-use Rattle.records.specs.declared.Body.{Body}
-use Rattle.records.specs.declared.Body.the-variants.{Length, Unknown as NoLength}
-use Rattle.records.specs.Kinds.{kindOf, bodyOf, wordOf}
+use Rattle.records.specs.Kinds.{kindOf, bodyOf}
 use Rattle.table.specs.Flags.{maxPoints}
-use Rattle.stored.specs.declared.Walk.{Walk}
-use Rattle.stored.specs.declared.Walk.the-variants.{Laid, WrongKind, Missing, WrongCount, After}
-use Rattle.stored.specs.declared.Step.{Step}
-use Rattle.stored.specs.declared.Step.the-variants.{Whole, Stop}
+use Rattle.records.specs.declared.Walk.{Walk}
+use Rattle.records.specs.declared.Walk.the-variants.{WrongKind, Missing, After}
+use Rattle.records.specs.declared.Step.{Step}
+use Rattle.records.specs.declared.Step.the-variants.{Stop}
+use Rattle.records.specs.Walks.{bodyStep, endStep, goOn}
 
 -- The bytes of the longest stored table: 4E and n, a record of 3 bytes for each point, 45 and their number (document 01, "The written form").
 abbrev pub longestTable : ℕ
 longestTable = 2 + 3 * maxPoints + 3
-
--- The body of the record whose kind stands at the place, before the bytes that follow that kind: it is judged only when all of it is there,
--- and a cut one is missing bytes at the length of the input (document 02, No. 3).
-abbrev pub bodyStep : Body → ℕ → List ℕ → Step
-bodyStep (Length l) place rest = cond (leb l (length rest)) (Whole l) (Stop (Missing (place + 1 + length rest)))
-bodyStep NoLength place rest = Stop (WrongKind place)
-
--- After the end record nothing may stand.
-abbrev pub afterEnd : ℕ → ℕ → List ℕ → Walk
-afterEnd count place [] = Laid count
-afterEnd count place (byte ∷ rest) = After place
-
--- The body of the end record, once all of it is there, is the number of records before it; then nothing may follow.
-abbrev pub endStep : Step → ℕ → ℕ → List ℕ → Step
-endStep (Stop fault) count place rest = Stop fault
-endStep (Whole l) count place rest =
-    Stop (cond (eqb (wordOf (getD rest 0 0) (getD rest 1 0)) count) (afterEnd count (place + 1 + l) (drop l rest)) (WrongCount (place + 1)))
 
 -- The first record gives n.
 abbrev pub firstStep : Kind → List ℕ → Step
@@ -60,11 +41,6 @@ laterStep Unknown count place rest = Stop (WrongKind place)
 -- A byte at the place after the longest table is a byte after the end, whatever it is (document 02, No. 3).
 abbrev pub recordStep : ℕ → ℕ → ℕ → List ℕ → Step
 recordStep byte count place rest = cond (eqb place longestTable) (Stop (After place)) (laterStep (kindOf byte) count place rest)
-
--- A whole record is passed, and the walk goes on; otherwise it ends.
-abbrev pub goOn : Step → (ℕ → Walk) → Walk
-goOn (Whole l) next = next l
-goOn (Stop end) next = end
 
 -- The walk over the bytes from a place on, with the number of records behind it, once the given number of bytes of a body is passed.
 unfoldable pub walkFrom : ℕ → ℕ → ℕ → List ℕ → Walk

@@ -4,16 +4,17 @@ ghost use mathlib.Core.Path.{_≡_};
 ghost use mathlib.Core.Bool.{Bool·beq};
 ghost use Prim.Native.Nat.{_+_, _≤_, _<_};
 ghost use lib.ListN.{length, getD, drop};
-ghost use Rattle.records.specs.Kinds.{bodyOf, kindOf};
+ghost use Rattle.records.specs.Kinds.{kindOf};
 ghost use Rattle.gf2.specs.Limits.{maxVariables};
 ghost use Rattle.table.specs.Decision.{front};
 ghost use Rattle.table.specs.Table.{outside, unordered};
 ghost use Rattle.stored.specs.Marks.{noMark, marks, pointsOf, storedPoints};
 ghost use Rattle.stored.specs.Reading.{readFault, readAnswer, onAfter, freeAfter};
-ghost use Rattle.stored.specs.Stored.{LaidOut, layoutOf, storedFault};
-ghost use Rattle.stored.specs.Layout.{bodyStep, endStep, firstStep, recordStep, walkFrom, walked};
-use records::Body;
+ghost use Rattle.stored.specs.Stored.{LaidOut, storedFault};
+ghost use Rattle.stored.specs.Layout.{firstStep, recordStep, walkFrom, walked};
 use records::Kind;
+use records::Step;
+use records::Walk;
 
 // The bytes of the longest stored table, as `longestTable` in specs/.
 pub const LONGEST_TABLE: usize = 2 + 3 * table::MAX_POINTS + 3;
@@ -22,21 +23,6 @@ pub const LONGEST_TABLE: usize = 2 + 3 * table::MAX_POINTS + 3;
 const FIRST_POINT: usize = 2;
 
 const POINT_LENGTH: usize = 3;
-
-// What the walk over the bytes finds: a table with a number of records, or the first fault with its place (document 02, No. 3).
-pub enum Walk {
-    Laid(usize),
-    WrongKind(usize),
-    Missing(usize),
-    WrongCount(usize),
-    After(usize),
-}
-
-// What the walk finds at one record: a whole one, with the length of its body, or how the walk ends.
-enum Step {
-    Whole(usize),
-    Stop(Walk),
-}
 
 // What reading gives: the refusal or 0, n, and how many on and free points there are.
 #[repr(C)]
@@ -47,48 +33,6 @@ pub struct TableRead {
     pub free_count: usize,
 }
 
-// The body of the record at the place.
-fn body_step(bytes: &[u8], place: usize, kind: Kind) -> Step
-    requires { ⌜ place < length (now bytes) ⌝ }
-    ensures { λ r. ⌜ r ≡ bodyStep (bodyOf kind) place (drop (place + 1) (now (bytes .entry))) ⌝ }
-{
-    let Body::Length(length) = records::body_of(kind) else {
-        return Step::Stop(Walk::WrongKind(place));
-    };
-    if length < bytes.len() - place {
-        Step::Whole(length)
-    } else {
-        Step::Stop(Walk::Missing(bytes.len()))
-    }
-}
-
-// The end record at the place: the number of records before it, and nothing after.
-fn end_step(bytes: &[u8], count: usize, place: usize) -> Step
-    requires { ⌜ place < length (now bytes) ⌝ }
-    ensures { λ r.
-        ⌜
-        r
-        ≡ endStep
-        (bodyStep (bodyOf Kind.End) place (drop (place + 1) (now (bytes .entry))))
-        count
-        place
-        (drop (place + 1) (now (bytes .entry)))
-        ⌝ }
-{
-    let body = body_step(bytes, place, Kind::End);
-    let Step::Whole(length) = body else {
-        return body;
-    };
-    let next = place + 1 + length;
-    if records::word(bytes[place + 1], bytes[place + 2]) as usize != count {
-        Step::Stop(Walk::WrongCount(place + 1))
-    } else if next < bytes.len() {
-        Step::Stop(Walk::After(next))
-    } else {
-        Step::Stop(Walk::Laid(count))
-    }
-}
-
 // The first record of a table.
 fn first_step(bytes: &[u8]) -> Step
     requires { ⌜ 0 < length (now bytes) ⌝ }
@@ -96,7 +40,7 @@ fn first_step(bytes: &[u8]) -> Step
 {
     let kind = records::kind_of(bytes[0]);
     match kind {
-        Kind::Variables => body_step(bytes, 0, kind),
+        Kind::Variables => records::body_step(bytes, 0, kind),
         _ => Step::Stop(Walk::WrongKind(0)),
     }
 }
@@ -111,9 +55,9 @@ fn record_step(bytes: &[u8], count: usize, place: usize) -> Step
     }
     let kind = records::kind_of(bytes[place]);
     match kind {
-        Kind::On => body_step(bytes, place, kind),
-        Kind::Free => body_step(bytes, place, kind),
-        Kind::End => end_step(bytes, count, place),
+        Kind::On => records::body_step(bytes, place, kind),
+        Kind::Free => records::body_step(bytes, place, kind),
+        Kind::End => records::end_step(bytes, count, place),
         _ => Step::Stop(Walk::WrongKind(place)),
     }
 }
@@ -149,19 +93,6 @@ pub fn walk_table(bytes: &[u8]) -> Walk
     match first_step(bytes) {
         Step::Stop(end) => end,
         Step::Whole(length) => walk_records(bytes, 1 + length),
-    }
-}
-
-// The refusal number of what the walk found, or 0.
-fn layout_fault(found: Walk) -> u8
-    ensures { λ r. ⌜ r ≡ layoutOf found ⌝ }
-{
-    match found {
-        Walk::Laid(_) => 0,
-        Walk::WrongKind(_) => table::LAYOUT_FAULT,
-        Walk::Missing(_) => table::LAYOUT_FAULT,
-        Walk::WrongCount(_) => table::LAYOUT_FAULT,
-        Walk::After(_) => table::LAYOUT_FAULT,
     }
 }
 
@@ -221,7 +152,7 @@ fn points_unordered(bytes: &[u8]) -> bool
 pub fn stored_fault(bytes: &[u8]) -> u8
     ensures { λ r. ⌜ r ≡ storedFault (now (bytes .entry)) ⌝ }
 {
-    let fault = layout_fault(walk_table(bytes));
+    let fault = records::layout_fault(walk_table(bytes));
     if fault != 0 {
         return fault;
     }

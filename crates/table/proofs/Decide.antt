@@ -1,15 +1,13 @@
 -- Laws of one decision over a list of tests: what is given where none applies, where an early one does, and where only the last does. Read next: Fill.
 use mathlib.Core.Path.{_≡_, refl, sym, ap, _∙_}
-use mathlib.Core.Bool.{true, false, cond}
 use mathlib.Core.Logic.{_≢_}
-use mathlib.Core.List.{List, [], _∷_, _++_}
+use mathlib.Core.List.{List, _++_}
 use Prim.Native.Nat.{ℕ, _≤_, _<_}
 use native.Mathlib.Decide.{ℕ-discrete}
 use native.Mathlib.Omega.{arith}
-use lib.Dec.{eqb, ltb}
 use lib.ListN.{length}
 use borrow.Author.Tests.{eq-eqb, ne-eqb, lt-ltb, le-ltb}
-use Rattle.table.specs.Refusal.{Test, test, firstFault, Numbered, Exact, roomFault}
+use Rattle.table.specs.Refusal.{Test, firstFault, Numbered, Exact, roomFault}
 use Rattle.table.proofs.Refusal.{fault-first, no-fault, fault-append, fault-before}
 use Rattle.table.specs.Decision.{decide, front, roomAfter, roomTest}
 

@@ -1,16 +1,14 @@
 -- `basis::variables_of` meets its contract: what is found, then the variables of the places below k, is the whole. Assumes nothing.
-use mathlib.Core.Path.{_≡_, refl, sym, ap, _∙_}
+use mathlib.Core.Path.{_≡_, sym, ap, _∙_}
 use mathlib.Core.Bool.{Bool, true, false, cond}
-use mathlib.Core.List.{List, [], _∷_, _++_, map}
+use mathlib.Core.List.{List, [], _∷_, _++_}
 use Prim.Native.Nat.{ℕ, suc, _+_, _-_, _≤_, _<_}
 use native.Mathlib.Omega.{arith}
 use borrow.Author.Needs.{needs}
-use lib.ListN.{length, length-append}
-use Rattle.gf2.specs.Limits.{maxVariables}
+use lib.ListN.{length-append}
 use Rattle.gf2.specs.Bits.{bit, indexOf}
 use Rattle.gf2.specs.Basis.{placesAt, variablesAt}
 use Rattle.gf2.proofs.Variables.{places-step, places-none}
-use Rattle.basis.specs.declared.ShortList.{ShortList}
 use Rattle.basis.specs.Short.{listed, short}
 use Rattle.basis.proofs.Values.{short-listed, short-again, short-len}
 use Rattle.basis.proofs.variables_of.Statement.{statement}

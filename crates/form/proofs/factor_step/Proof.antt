@@ -7,9 +7,10 @@ use borrow.Author.Tests.{eq-eqb, ne-eqb, not-true, not-false}
 use lib.ListN.{length, drop, getD, length-drop}
 use Rattle.product.specs.Product.{fits, agrees}
 use Rattle.product.proofs.Product.{fits-is}
+use Rattle.records.proofs.Whole.{body-length}
 use Rattle.form.specs.Decoding.{factorOf}
 use Rattle.form.specs.Counting.{factorsBefore}
-use Rattle.form.proofs.Walking.{body-length, factor-read}
+use Rattle.form.proofs.Walking.{factor-read}
 use Rattle.form.proofs.factor_step.Statement.{statement}
 use Rattle.form.proofs.factor_step.Tie as tie
 

@@ -13,10 +13,10 @@ use Rattle.records.specs.declared.Kind.the-variants.{Variables, Product, Factor
 use Rattle.records.specs.Kinds.{kindOf}
 use Rattle.records.proofs.Kind.{the-type}
 use Rattle.table.specs.Table.{badCount}
-use Rattle.form.specs.declared.FormWalk.the-variants.{WrongKind}
-use Rattle.form.specs.declared.Step.the-variants.{Stop}
+use Rattle.records.specs.declared.Walk.the-variants.{WrongKind}
+use Rattle.records.specs.declared.Step.the-variants.{Stop}
+use Rattle.records.proofs.Whole.{body-length}
 use Rattle.form.specs.Walk.{firstStep}
-use Rattle.form.proofs.Walking.{body-length}
 use Rattle.form.proofs.first_step.Statement.{statement}
 use Rattle.form.proofs.first_step.Tie as tie
 

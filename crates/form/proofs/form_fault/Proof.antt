@@ -1,18 +1,18 @@
 -- `form::form_fault` meets its contract: the number is that of what the walk finds. Assumes nothing.
 use mathlib.Core.Path.{ap, _∙_}
 use borrow.Author.Needs.{needs}
-use Rattle.form.specs.Reading.{formLayoutOf}
+use Rattle.records.specs.Walks.{layoutOf}
 use Rattle.form.proofs.form_fault.Statement.{statement}
 use Rattle.form.proofs.form_fault.Tie as tie
 
 walk-form-requires : tie.Need-walk-form-requires
 walk-form-requires c κs = search needs
 
-form-layout-requires : tie.Need-form-layout-requires
-form-layout-requires c κs = search needs
+layout-fault-requires : tie.Need-layout-fault-requires
+layout-fault-requires c κs = search needs
 
 returns : tie.Need-returns
-returns c = c .form-layout .ensures ∙ ap formLayoutOf (c .before .walk-form .ensures)
+returns c = c .layout-fault .ensures ∙ ap layoutOf (c .before .walk-form .ensures)
 
 pub form-fault-spec : {M : Type 1} → statement M
-form-fault-spec = tie.close (tie.spec walk-form-requires form-layout-requires returns)
+form-fault-spec = tie.close (tie.spec walk-form-requires layout-fault-requires returns)

@@ -9,8 +9,8 @@ use lib.ListN.{drop}
 use Rattle.records.specs.declared.Kind.{Kind}
 use Rattle.records.specs.declared.Kind.the-variants.{Variables, Product, Factor, End, On, Free, Unknown}
 use Rattle.records.proofs.Kind.{the-type}
-use Rattle.form.specs.declared.FormWalk.the-variants.{WrongKind}
-use Rattle.form.specs.declared.Step.the-variants.{Stop}
+use Rattle.records.specs.declared.Walk.the-variants.{WrongKind}
+use Rattle.records.specs.declared.Step.the-variants.{Stop}
 use Rattle.form.specs.Walk.{Behind, recordStep}
 use Rattle.form.specs.Counting.{behindBy}
 use Rattle.form.proofs.record_step.Statement.{statement}

@@ -9,7 +9,7 @@ use Rattle.gf2.specs.Limits.{maxVariables}
 use Rattle.records.specs.Kinds.{kindOf}
 use Rattle.table.specs.Table.{badCount}
 use Rattle.table.proofs.Table.{good-count}
-use Rattle.form.specs.declared.Step.the-variants.{Whole}
+use Rattle.records.specs.declared.Step.the-variants.{Whole}
 use Rattle.form.specs.Walk.{firstStep}
 use Rattle.form.proofs.Walking.{walk-none, first-whole, first-ends, first-goes}
 use Rattle.form.proofs.walk_form.Statement.{statement}

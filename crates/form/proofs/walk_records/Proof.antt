@@ -6,7 +6,7 @@ use native.Mathlib.Omega.{arith}
 use borrow.Author.Needs.{needs}
 use lib.ListN.{length, drop, getD, drop-of-length-le}
 use Rattle.records.specs.Kinds.{kindOf}
-use Rattle.form.specs.declared.Step.the-variants.{Whole}
+use Rattle.records.specs.declared.Step.the-variants.{Whole}
 use Rattle.form.specs.Walk.{behind, recordStep, walkFrom}
 use Rattle.form.specs.Counting.{Counted, behindBy, factorsBefore}
 use Rattle.form.proofs.Walking.{Carried, carried, none-fit, walk-ends, walk-goes}

@@ -1,6 +1,6 @@
 -- `glospruma::glospruma_affine` meets its contract: a refusal, or the directions, the least point and the projection of the on points.
 -- Assumes nothing.
-use mathlib.Core.Path.{_≡_, sym, ap, _∙_}
+use mathlib.Core.Path.{sym, ap, _∙_}
 use mathlib.Core.List.{List}
 use Prim.Native.Nat.{ℕ}
 use native.Mathlib.Nat.{pos-of-ne-zero}

@@ -1,6 +1,6 @@
 -- `glospruma::glospruma_complete` meets its contract: the table's refusal, the room's, or the points of the completed function.
 -- Assumes nothing.
-use mathlib.Core.Path.{_≡_, sym, ap, _∙_}
+use mathlib.Core.Path.{sym, ap, _∙_}
 use mathlib.Core.List.{List}
 use Prim.Native.Nat.{ℕ}
 use native.Mathlib.Omega.{arith}

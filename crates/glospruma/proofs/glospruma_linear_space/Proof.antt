@@ -1,6 +1,5 @@
 -- `glospruma::glospruma_linear_space` meets its contract: the table's refusal, or the space of the flags of its on points. Assumes nothing.
-use mathlib.Core.Path.{_≡_, sym, _∙_}
-use Prim.Native.Nat.{ℕ}
+use mathlib.Core.Path.{sym, _∙_}
 use borrow.Author.Needs.{needs}
 use Rattle.table.proofs.Table.{accepted, on-flags}
 use Rattle.glospruma.proofs.LinearSpaces.{space-refused, space-accepted}

@@ -9,8 +9,8 @@ use lib.ListN.{drop}
 use Rattle.records.specs.declared.Kind.{Kind}
 use Rattle.records.specs.declared.Kind.the-variants.{Variables, Product, Factor, End, On, Free, Unknown}
 use Rattle.records.proofs.Kind.{the-type}
-use Rattle.stored.specs.declared.Walk.the-variants.{WrongKind}
-use Rattle.stored.specs.declared.Step.the-variants.{Stop}
+use Rattle.records.specs.declared.Walk.the-variants.{WrongKind}
+use Rattle.records.specs.declared.Step.the-variants.{Stop}
 use Rattle.stored.specs.Layout.{firstStep}
 use Rattle.stored.proofs.first_step.Statement.{statement}
 use Rattle.stored.proofs.first_step.Tie as tie

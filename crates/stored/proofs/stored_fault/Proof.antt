@@ -5,8 +5,9 @@ use native.Mathlib.Omega.{arith}
 use borrow.Author.Needs.{needs}
 use Rattle.table.specs.Refusal.{firstFault}
 use Rattle.table.proofs.Table.{good-count}
+use Rattle.records.specs.Walks.{layoutOf}
 use Rattle.stored.specs.Layout.{walked}
-use Rattle.stored.specs.Stored.{LaidOut, layoutOf, storedFault}
+use Rattle.stored.specs.Stored.{LaidOut, storedFault}
 use Rattle.stored.proofs.Laying.{table-length}
 use Rattle.stored.proofs.Accepting.{stored-layout, layout-laid}
 use Rattle.stored.proofs.stored_fault.Statement.{statement}

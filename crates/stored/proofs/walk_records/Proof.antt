@@ -4,7 +4,7 @@ use mathlib.Core.Path.{_≡_, refl, sym, _∙_}
 use native.Mathlib.Omega.{arith}
 use borrow.Author.Needs.{needs}
 use lib.ListN.{length, drop, getD, length-drop, drop-of-length-le}
-use Rattle.stored.specs.declared.Step.the-variants.{Whole}
+use Rattle.records.specs.declared.Step.the-variants.{Whole}
 use Rattle.stored.specs.Layout.{recordStep, walkFrom}
 use Rattle.stored.proofs.Walking.{record-whole, walk-ends, walk-goes}
 use Rattle.stored.proofs.walk_records.Statement.{statement}

@@ -5,7 +5,7 @@ use native.Mathlib.Omega.{arith}
 use borrow.Author.Needs.{needs}
 use lib.ListN.{length, drop, getD, length-drop}
 use Rattle.records.specs.Kinds.{kindOf}
-use Rattle.stored.specs.declared.Step.the-variants.{Whole}
+use Rattle.records.specs.declared.Step.the-variants.{Whole}
 use Rattle.stored.specs.Layout.{firstStep}
 use Rattle.stored.proofs.Walking.{walk-none, first-whole, first-ends, first-goes}
 use Rattle.stored.proofs.walk_table.Statement.{statement}

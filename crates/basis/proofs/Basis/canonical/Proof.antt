@@ -1,10 +1,8 @@
 -- `basis::Basis::canonical` meets its contract: a bit of the lead mask is set exactly at a lead. Assumes nothing.
 use mathlib.Core.Path.{_≡_, ap, _∙_}
-use mathlib.Core.List.{List}
-use Prim.Native.Nat.{ℕ, _^_, _≤_, _<_}
+use Prim.Native.Nat.{ℕ}
 use borrow.Author.Needs.{needs}
-use Rattle.gf2.specs.Limits.{maxVariables}
-use Rattle.gf2.specs.Bits.{_⊕_, _⊻_, bit}
+use Rattle.gf2.specs.Bits.{bit}
 use Rattle.gf2.specs.Basis.{isLead, leadMask, placesAt, canonicalPlaces, variablesAt}
 use Rattle.gf2.proofs.Variables.{bit-leadMask, places-ext}
 use Rattle.basis.specs.declared.Basis.{Basis}

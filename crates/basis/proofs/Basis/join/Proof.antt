@@ -1,13 +1,11 @@
 -- `basis::Basis::join` meets its contract: what is written, then the carried vector placed among those not passed yet, is the whole result.
 -- Assumes nothing.
-use mathlib.Core.Path.{_≡_, refl, sym, ap, _∙_, subst}
+use mathlib.Core.Path.{_≡_, sym, ap, _∙_, subst}
 use mathlib.Core.List.{List, [], _∷_, _++_, map, append-assoc}
-use Prim.Native.Nat.{ℕ, suc, _+_, _-_, _≤_, _<_, min, max}
-use native.Mathlib.Numerals.{add-one}
+use Prim.Native.Nat.{ℕ, _+_, _-_, _≤_, _<_, min, max}
 use native.Mathlib.Omega.{arith}
 use borrow.Author.Needs.{needs}
-use lib.ListN.{length, take, drop, getD, replicate, length-append}
-use lib.Seq.{take-append-seam}
+use lib.ListN.{length, take, drop, getD, length-append}
 use Rattle.gf2.specs.Limits.{maxVariables}
 use Rattle.gf2.specs.Finite.{Mem}
 use Rattle.gf2.specs.Basis.{Reduced, clear, place, join}
@@ -16,8 +14,8 @@ use Rattle.gf2.proofs.Reduce.{reduced-drop, reduced-length}
 use Rattle.gf2.proofs.Insert.{clear-reduced, place-step, join-reduced, join-length, join-below}
 use Rattle.basis.specs.declared.Basis.{Basis}
 use Rattle.basis.specs.declared.ShortList.{ShortList}
-use Rattle.basis.specs.Short.{listed, padded, short}
-use Rattle.basis.specs.Reduced.{vectorsOf, basisOf, IsBasis, Joins}
+use Rattle.basis.specs.Short.{listed, short}
+use Rattle.basis.specs.Reduced.{vectorsOf, basisOf, Joins}
 use Rattle.basis.proofs.Values.{basis-len, short-listed, short-again, short-len, vector-room, vector-next, vector-end}
 use Rattle.basis.proofs.Basis.join.Statement.{statement}
 use Rattle.basis.proofs.Basis.join.Tie as tie

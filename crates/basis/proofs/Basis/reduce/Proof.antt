@@ -1,15 +1,10 @@
 -- `basis::Basis::reduce` meets its contract: what is left to do at each turn is the reduction by the vectors not passed yet. Assumes nothing.
-use mathlib.Core.Path.{_≡_, refl, sym, ap, _∙_}
-use mathlib.Core.List.{List, []}
+use mathlib.Core.Path.{_≡_, _∙_}
 use Prim.Native.Nat.{ℕ, _+_, _-_, _≤_, _<_}
-use native.Mathlib.Numerals.{add-one}
 use native.Mathlib.Omega.{arith}
 use borrow.Author.Needs.{needs}
-use lib.ListN.{length, take, drop, getD, length-take, drop-of-length-le}
-use lib.Seq.{drop-cons, getD-take}
+use lib.ListN.{take, drop, getD}
 use Rattle.gf2.specs.Basis.{clear, reduce}
-use Rattle.gf2.proofs.Finite.{getD-mem}
-use Rattle.gf2.proofs.Reduce.{reduced-pos}
 use Rattle.basis.specs.declared.Basis.{Basis}
 use Rattle.basis.specs.Reduced.{vectorsOf, IsBasis}
 use Rattle.basis.proofs.Values.{vector-room, vector-pos, vector-next, vector-end}

@@ -1,4 +1,4 @@
--- `form::end_step` meets its contract: the body is there, so that its two bytes can be read. Assumes nothing.
+-- `records::end_step` meets its contract: the body is there, so that its two bytes can be read. Assumes nothing.
 use mathlib.Core.Path.{_≡_, sym, _∙_}
 use mathlib.Core.List.{List}
 use Prim.Native.Nat.{ℕ, _≤_, _<_, _+_}
@@ -7,31 +7,31 @@ use borrow.Author.Needs.{needs}
 use borrow.Author.Tests.{eq-eqb, ne-eqb}
 use lib.ListN.{length, drop, getD, length-drop, drop-of-length-le}
 use lib.Seq.{drop-drop, getD-drop, drop-cons}
 use Rattle.records.specs.declared.Body.the-variants.{Length}
 use Rattle.records.specs.Kinds.{wordOf}
-use Rattle.form.specs.declared.FormWalk.the-variants.{Laid, WrongCount, After}
-use Rattle.form.specs.declared.Step.the-variants.{Whole, Stop}
-use Rattle.form.specs.Walk.{endStep}
-use Rattle.form.proofs.Walking.{body-whole}
-use Rattle.form.proofs.end_step.Statement.{statement}
-use Rattle.form.proofs.end_step.Tie as tie
+use Rattle.records.specs.declared.Walk.the-variants.{Laid, WrongCount, After}
+use Rattle.records.specs.declared.Step.the-variants.{Whole, Stop}
+use Rattle.records.specs.Walks.{endStep}
+use Rattle.records.proofs.Whole.{body-whole}
+use Rattle.records.proofs.end_step.Statement.{statement}
+use Rattle.records.proofs.end_step.Tie as tie
 
 -- The end record at a place of the bytes, its body whole: its two bytes are not the number, or they are and a byte follows, or none does.
-module _ (s : List ℕ) (products place l : ℕ) where
+module _ (s : List ℕ) (count place l : ℕ) where
   number : wordOf (getD (drop (place + 1) s) 0 0) (getD (drop (place + 1) s) 1 0) ≡ wordOf (getD s (place + 1) 0) (getD s (place + 2) 0)
   number =
       let low : place + 1 + 0 ≡ place + 1 = omega arith in
       let high : place + 1 + 1 ≡ place + 2 = omega arith in
       cc (getD-drop (place + 1) s 0 0, getD-drop (place + 1) s 1 0)
 
-  other : (wordOf (getD s (place + 1) 0) (getD s (place + 2) 0) ≡ products → ⊥) → Stop (WrongCount (place + 1)) ≡ endStep (Whole l) products place (drop (place + 1) s)
-  other h = rw (number, ne-eqb _ products h)
+  other : (wordOf (getD s (place + 1) 0) (getD s (place + 2) 0) ≡ count → ⊥) → Stop (WrongCount (place + 1)) ≡ endStep (Whole l) count place (drop (place + 1) s)
+  other h = rw (number, ne-eqb _ count h)
 
-  more : wordOf (getD s (place + 1) 0) (getD s (place + 2) 0) ≡ products → place + 1 + l < length s → Stop (After (place + 1 + l)) ≡ endStep (Whole l) products place (drop (place + 1) s)
-  more h b = rw (number, eq-eqb _ products h, drop-drop l (place + 1) s, drop-cons s (place + 1 + l) 0 b)
+  more : wordOf (getD s (place + 1) 0) (getD s (place + 2) 0) ≡ count → place + 1 + l < length s → Stop (After (place + 1 + l)) ≡ endStep (Whole l) count place (drop (place + 1) s)
+  more h b = rw (number, eq-eqb _ count h, drop-drop l (place + 1) s, drop-cons s (place + 1 + l) 0 b)
 
-  done : wordOf (getD s (place + 1) 0) (getD s (place + 2) 0) ≡ products → length s ≤ place + 1 + l → Stop (Laid products) ≡ endStep (Whole l) products place (drop (place + 1) s)
-  done h b = rw (number, eq-eqb _ products h, drop-drop l (place + 1) s, drop-of-length-le s b)
+  done : wordOf (getD s (place + 1) 0) (getD s (place + 2) 0) ≡ count → length s ≤ place + 1 + l → Stop (Laid count) ≡ endStep (Whole l) count place (drop (place + 1) s)
+  done h b = rw (number, eq-eqb _ count h, drop-drop l (place + 1) s, drop-of-length-le s b)
 
 body-step-requires : tie.Need-body-step-requires
 body-step-requires c κs = search needs
@@ -89,7 +89,7 @@ returns-2 c =
     let k = w .before .before .before in
     let a = k .before .before .before .before .before .args in
     rw (sym (k .before .before .before .body-step .ensures) ∙ k .before .body .given .1)
-    (other (a .bytes .now) (a .products) (a .place) (k .before .body .given .0 .0) (λ e. c .if1 .taken (w .word .ensures ∙ e)))
+    (other (a .bytes .now) (a .count) (a .place) (k .before .body .given .0 .0) (λ e. c .if1 .taken (w .word .ensures ∙ e)))
 
 returns-3 : tie.Need-returns-3
 returns-3 c =
@@ -97,7 +97,7 @@ returns-3 c =
     let k = w .before .before .before in
     let a = k .before .before .before .before .before .args in
     rw (sym (k .before .before .before .body-step .ensures) ∙ k .before .body .given .1)
-    (more (a .bytes .now) (a .products) (a .place) (k .before .body .given .0 .0) (sym (w .word .ensures) ∙ c .before .if1 .left) (c .if2 .taken))
+    (more (a .bytes .now) (a .count) (a .place) (k .before .body .given .0 .0) (sym (w .word .ensures) ∙ c .before .if1 .left) (c .if2 .taken))
 
 returns-4 : tie.Need-returns-4
 returns-4 c =
@@ -105,7 +105,7 @@ returns-4 c =
     let k = w .before .before .before in
     let a = k .before .before .before .before .before .args in
     rw (sym (k .before .before .before .body-step .ensures) ∙ k .before .body .given .1)
-    (done (a .bytes .now) (a .products) (a .place) (k .before .body .given .0 .0) (sym (w .word .ensures) ∙ c .before .if1 .left) (c .if2 .left))
+    (done (a .bytes .now) (a .count) (a .place) (k .before .body .given .0 .0) (sym (w .word .ensures) ∙ c .before .if1 .left) (c .if2 .left))
 
 pub end-step-spec : {M : Type 1} → statement M
 end-step-spec =

@@ -1,9 +1,9 @@
--- `form::form_layout` meets its contract: each arm knows what the walk found. Assumes nothing.
+-- `records::layout_fault` meets its contract: each arm knows what the walk found. Assumes nothing.
 use borrow.Author.Needs.{needs}
 use Rattle.table.specs.Refusal.{firstFault}
-use Rattle.form.specs.Reading.{formLayoutOf}
-use Rattle.form.proofs.form_layout.Statement.{statement}
-use Rattle.form.proofs.form_layout.Tie as tie
+use Rattle.records.specs.Walks.{layoutOf}
+use Rattle.records.proofs.layout_fault.Statement.{statement}
+use Rattle.records.proofs.layout_fault.Tie as tie
 
 enum-told : tie.Need-enum-told
 enum-told c = search needs
@@ -33,43 +33,43 @@ enum-told-9 : tie.Need-enum-told-9
 enum-told-9 c = search needs
 
 returns : tie.Need-returns
-unfolding formLayoutOf firstFault
+unfolding layoutOf firstFault
 returns c = rw (c .enum-told .given .1)
 
 returns-2 : tie.Need-returns-2
-unfolding formLayoutOf firstFault
+unfolding layoutOf firstFault
 returns-2 c = rw (c .enum-told2 .given .1)
 
 returns-3 : tie.Need-returns-3
-unfolding formLayoutOf firstFault
+unfolding layoutOf firstFault
 returns-3 c = rw (c .enum-told3 .given .1)
 
 returns-4 : tie.Need-returns-4
-unfolding formLayoutOf firstFault
+unfolding layoutOf firstFault
 returns-4 c = rw (c .enum-told4 .given .1)
 
 returns-5 : tie.Need-returns-5
-unfolding formLayoutOf firstFault
+unfolding layoutOf firstFault
 returns-5 c = rw (c .enum-told5 .given .1)
 
 returns-6 : tie.Need-returns-6
-unfolding formLayoutOf firstFault
+unfolding layoutOf firstFault
 returns-6 c = rw (c .enum-told6 .given .1)
 
 returns-7 : tie.Need-returns-7
-unfolding formLayoutOf firstFault
+unfolding layoutOf firstFault
 returns-7 c = rw (c .enum-told7 .given .1)
 
 returns-8 : tie.Need-returns-8
-unfolding formLayoutOf firstFault
+unfolding layoutOf firstFault
 returns-8 c = rw (c .enum-told8 .given .1)
 
 returns-9 : tie.Need-returns-9
-unfolding formLayoutOf firstFault
+unfolding layoutOf firstFault
 returns-9 c = rw (c .enum-told9 .given .1)
 
-pub form-layout-spec : {M : Type 1} → statement M
-form-layout-spec =
+pub layout-fault-spec : {M : Type 1} → statement M
+layout-fault-spec =
     tie.close
     (tie.spec
     enum-told

@@ -1,14 +1,14 @@
--- `stored::body_step` meets its contract: the bytes that are left decide whether the body is there. Assumes nothing.
+-- `records::body_step` meets its contract: the bytes that are left decide whether the body is there. Assumes nothing.
 use Prim.Native.Nat.{_≤_, _<_, _+_}
 use mathlib.Core.Path.{_≡_, sym, ap, _∙_}
 use native.Mathlib.Omega.{arith}
 use borrow.Author.Needs.{needs}
 use borrow.Author.Tests.{le-leb, lt-leb}
 use lib.ListN.{length, drop, length-drop}
-use Rattle.stored.specs.declared.Walk.the-variants.{Missing}
-use Rattle.stored.specs.declared.Step.the-variants.{Stop}
-use Rattle.stored.proofs.body_step.Statement.{statement}
-use Rattle.stored.proofs.body_step.Tie as tie
+use Rattle.records.specs.declared.Walk.the-variants.{Missing}
+use Rattle.records.specs.declared.Step.the-variants.{Stop}
+use Rattle.records.proofs.body_step.Statement.{statement}
+use Rattle.records.proofs.body_step.Tie as tie
 
 body-of-requires : tie.Need-body-of-requires
 body-of-requires c κs = search needs

@@ -1,0 +1,58 @@
+-- What the walks over the bytes of tables and forms share: the body of a record, the end record, and the refusal of what a walk finds
+-- (document 01, "The written form"; the faults and their places are those of document 02, No. 3).
+use mathlib.Core.Bool.{Bool, true, false, cond}
+use mathlib.Core.List.{List, [], _∷_}
+use Prim.Native.Nat.{ℕ, _+_}
+use lib.Dec.{eqb, leb}
+use lib.ListN.{length, getD, drop}
+use Rattle.table.specs.Refusal.{Test, test, firstFault, layoutFault}
+use Rattle.records.specs.declared.Body.{Body}
+use Rattle.records.specs.declared.Body.the-variants.{Length, Unknown as NoLength}
+use Rattle.records.specs.declared.Walk.{Walk}
+use Rattle.records.specs.declared.Walk.the-variants.{Laid, WrongKind, Missing, WrongVariables, WrongFactor, NotCanonical, WrongCount, After, TooMany}
+use Rattle.records.specs.declared.Step.{Step}
+use Rattle.records.specs.declared.Step.the-variants.{Whole, Stop}
+use Rattle.records.specs.Kinds.{wordOf}
+
+-- The body of the record whose kind stands at the place, before the bytes that follow that kind: it is judged only when all of it is there,
+-- and a cut one is missing bytes at the length of the input (document 02, No. 3).
+abbrev pub bodyStep : Body → ℕ → List ℕ → Step
+bodyStep (Length l) place rest = cond (leb l (length rest)) (Whole l) (Stop (Missing (place + 1 + length rest)))
+bodyStep NoLength place rest = Stop (WrongKind place)
+
+-- After the end record nothing may stand.
+abbrev pub afterEnd : ℕ → ℕ → List ℕ → Walk
+afterEnd count place [] = Laid count
+afterEnd count place (byte ∷ rest) = After place
+
+-- The body of the end record, once all of it is there, is the number of points or products before it; then nothing may follow.
+abbrev pub endStep : Step → ℕ → ℕ → List ℕ → Step
+endStep (Stop fault) count place rest = Stop fault
+endStep (Whole l) count place rest =
+    Stop
+    (cond (eqb (wordOf (getD rest 0 0) (getD rest 1 0)) count) (afterEnd count (place + 1 + l) (drop l rest)) (WrongCount (place + 1)))
+
+-- A whole record is passed, and the walk goes on; otherwise it ends.
+abbrev pub goOn : Step → (ℕ → Walk) → Walk
+goOn (Whole l) next = next l
+goOn (Stop end) next = end
+
+-- A walk met a fault.
+abbrev pub isFault : Walk → Bool
+isFault (Laid count) = false
+isFault (WrongKind place) = true
+isFault (Missing place) = true
+isFault (WrongVariables place) = true
+isFault (WrongFactor place) = true
+isFault (NotCanonical place) = true
+isFault (WrongCount place) = true
+isFault (After place) = true
+isFault (TooMany place) = true
+
+-- The tests of the layout: document 01 has one number for every fault that a walk meets; document 02, No. 3 gives each its own.
+abbrev pub layoutTests : Walk → List Test
+layoutTests found = test layoutFault (isFault found) ∷ []
+
+-- The refusal number of what the walk found, or 0.
+unfoldable pub layoutOf : Walk → ℕ
+layoutOf found = firstFault (layoutTests found)
