@@ -1,0 +1,1 @@
+// The form written for a table (document 01, "The written form"). What the words mean is in specs/, the laws about them in proofs/.
