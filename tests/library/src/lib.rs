@@ -7,6 +7,8 @@
 mod affine;
 mod analyse;
 mod complete;
+mod form_points;
+mod form_rewrite;
 mod linear_space;
 mod lists;
 mod read_table;
@@ -14,6 +16,8 @@ mod read_table;
 pub use affine::{affine, Affine};
 pub use analyse::{analyse, Analysis};
 pub use complete::{complete, Completion};
+pub use form_points::{form_points, FormPoints};
+pub use form_rewrite::{form_rewrite, FormRewrite};
 pub use linear_space::{linear_space, LinearSpace};
 pub use lists::{Basis, ShortList};
 pub use read_table::{read_table, TableRead};

@@ -5,6 +5,11 @@ use library::{Basis, ShortList};
 
 const P5_ON: [u16; 10] = [4, 5, 6, 7, 9, 10, 12, 13, 14, 15];
 
+const P5_FORM: [u8; 19] = [
+    0x4E, 0x04, 0x50, 0x58, 0x01, 0x04, 0x00, 0x50, 0x58, 0x01, 0x0C, 0x00, 0x58, 0x00, 0x0B, 0x00,
+    0x45, 0x02, 0x00,
+];
+
 /// A basis of these vectors.
 fn basis(vectors: &[u16]) -> Basis {
     let mut basis = Basis::default();
@@ -30,9 +35,23 @@ fn degree_and_restriction(n: usize, on: &[u16]) -> (usize, Vec<u16>) {
     (found.degree, room[..found.count].to_vec())
 }
 
+/// The points of a form of n variables; the form is also written as it was read,
+/// which leaves the byte behind it.
+fn points_of_form(n: usize, form: &[u8]) -> Vec<u16> {
+    let mut room = vec![9; form.len() + 1];
+    let found = library::form_rewrite(form, &mut room);
+    assert_eq!((found.refusal, found.length), (0, form.len()));
+    assert_eq!(room, [form, &[9]].concat());
+    let mut room = [0; 4096];
+    let found = library::form_points(form, &mut room);
+    assert_eq!((found.refusal, found.variables), (0, n));
+    room[..found.count].to_vec()
+}
+
 #[test]
 fn p1_no_point() {
     assert_eq!(degree_and_restriction(1, &[]), (1, vec![]));
+    assert_eq!(points_of_form(1, &[0x4E, 1, 0x45, 0, 0]), []);
 }
 
 #[test]
@@ -43,6 +62,7 @@ fn p2_one_point() {
 #[test]
 fn p3_both_points() {
     assert_eq!(degree_and_restriction(1, &[0, 1]), (1, vec![0]));
+    assert_eq!(points_of_form(1, &[0x4E, 1, 0x50, 0x45, 1, 0]), [0, 1]);
 }
 
 #[test]
@@ -70,6 +90,7 @@ fn p5_four_variables() {
     assert_eq!(found.equations, list(&[8, 4, 3]));
     assert_eq!(found.count, 5);
     assert_eq!(room, [2, 3, 5, 6, 7, 9]);
+    assert_eq!(points_of_form(4, &P5_FORM), P5_ON);
 }
 
 #[test]

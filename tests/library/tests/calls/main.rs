@@ -4,8 +4,10 @@
 //! form", "Refusal numbers" and "Table of proved examples".
 //!
 //! A further call takes a module here with its own `compare` and the inputs of
-//! `tables`, `lists` and `stored`, and one in the package's `src` folder.
+//! `tables`, `lists`, `stored` and `forms`, and one in the package's `src`
+//! folder.
 
+mod forms;
 mod lent;
 mod lists;
 mod stored;
@@ -15,6 +17,8 @@ mod tally;
 mod affine;
 mod analyse;
 mod complete;
+mod form_points;
+mod form_rewrite;
 mod linear_space;
 mod read_table;
 
