@@ -2,10 +2,11 @@
 use mathlib.Core.Path.{_≡_, refl, sym, ap, _∙_, subst}
 use mathlib.Core.Bool.{Bool, true, _&&_}
 use mathlib.Core.Logic.{inl, inr}
-use mathlib.Core.List.{List, _∷_, map, flatMap, map-map}
-use Prim.Native.Nat.{ℕ, _^_, _≤_}
+use mathlib.Core.List.{List, _∷_, _++_, map, flatMap, map-map}
+use Prim.Native.Nat.{ℕ, _-_, _^_, _≤_}
 use native.Mathlib.Omega.{arith}
 use lib.Dec.{ltb, eqb}
+use lib.ListN.{replicate}
 use lib.Pow.{pow-mono}
 use lib.Bits.{bitAnd}
 use borrow.Author.Tests.{ltb-true, lt-ltb}
@@ -32,6 +33,10 @@ all-masks : map (λ d. map maskOf (entriesOf d)) (select (λ d. true) 7) ≡ map
 unfolding entries entriesOf vectorsOf leadMask select halvings lead
 all-masks = refl
 
+all-bytes : map (λ d. map (vectorsOf 6) (entriesOf d)) (select (λ d. true) 7) ≡ map (λ d. map (λ e. vectorsOf d e ++ replicate (6 - d) 0) (entriesOf d)) (select (λ d. true) 7)
+unfolding entries entriesOf vectorsOf select
+all-bytes = refl
+
 -- Maps that agree over a list agree on each member.
 map-at : {A B : Type 0} (f g : A → B) (l : List A) → map f l ≡ map g l → (a : A) → Mem a l → f a ≡ g a
 map-at f g (b ∷ l) e a (inl q) = rw q (cc)
@@ -45,6 +50,11 @@ entries-bases d h = map-at (λ d. map (vectorsOf d) (entriesOf d)) (λ d. bases 
 pub entry-mask : (d e : ℕ) → d ≤ 6 → Mem e (entriesOf d) → maskOf e ≡ leadMask (vectorsOf d e)
 entry-mask d e h m = map-at maskOf (λ e. leadMask (vectorsOf d e)) (entriesOf d)
     (map-at (λ d. map maskOf (entriesOf d)) (λ d. map (λ e. leadMask (vectorsOf d e)) (entriesOf d)) (select (λ d. true) 7) all-masks d (mem-select (λ d. true) 7 d (omega arith) refl)) e m
+
+-- The bytes between its vectors and its lead bits are 0.
+pub entry-bytes : (d e : ℕ) → d ≤ 6 → Mem e (entriesOf d) → vectorsOf 6 e ≡ vectorsOf d e ++ replicate (6 - d) 0
+entry-bytes d e h m = map-at (vectorsOf 6) (λ e. vectorsOf d e ++ replicate (6 - d) 0) (entriesOf d)
+    (map-at (λ d. map (vectorsOf 6) (entriesOf d)) (λ d. map (λ e. vectorsOf d e ++ replicate (6 - d) 0) (entriesOf d)) (select (λ d. true) 7) all-bytes d (mem-select (λ d. true) 7 d (omega arith) refl)) e m
 
 pub entry-reduced : (d e : ℕ) → d ≤ 6 → Mem e (entriesOf d) → Reduced (vectorsOf d e)
 entry-reduced d e h m = basis-is 6 d (vectorsOf d e) .0 (subst (Mem (vectorsOf d e)) (entries-bases d h) (mem-map (vectorsOf d) (entriesOf d) e m)) .0

@@ -5,12 +5,15 @@ ghost use mathlib.Core.Path.{_≡_};
 ghost use lib.ListN.{length};
 ghost use Rattle.stored.specs.Reading.{readAnswer, onAfter, freeAfter};
 ghost use Rattle.form.specs.Reading.{pointsAnswer, pointsAfter, rewriteAnswer, rewriteAfter};
+ghost use Rattle.cubes.specs.Listing.{answer, listingRoom};
+ghost use Rattle.listing.specs.Answers.{callOf, numbersOf};
 ghost use Rattle.glospruma.specs.Spaces.{linearSpaceAnswer, completeRefused, completeAnswer, completeRoom, analyseRefused, analyseAnswer, analyseRoom};
 ghost use Rattle.glospruma.specs.Affine.{affineRefused, affineAnswer, affineRoom};
 use basis::Basis;
 use basis::ShortList;
 use form::FormPoints;
 use form::FormRewrite;
+use listing::Listed;
 use stored::TableRead;
 use table::AFFINE_FAULT;
 use table::ROOM_FAULT;
@@ -239,4 +242,21 @@ pub extern "C" fn glospruma_form_rewrite(bytes: &[u8], room: &mut [u8]) -> FormR
     ensures { λ r. ⌜ now (room .exit) ≡ rewriteAfter (now (bytes .entry)) (now (room .entry)) ⌝ }
 {
     form::form_rewrite(bytes, &mut *room)
+}
+
+// The primes of a table from a place on: candidates are passed in order until the end, the end of the allowance, or a prime that no longer
+// fits; the primes' records stand at the front of the room. Refusals 1, 2, 3, 4, 5, 9; a room that runs short stops the listing.
+#[no_mangle]
+pub extern "C" fn glospruma_list_primes(
+    n: usize,
+    on: &[u16],
+    free: &[u16],
+    place: u64,
+    allowance: u64,
+    room: &mut [u8],
+) -> Listed
+    ensures { λ r. ⌜ numbersOf r ≡ answer (callOf n (now (on .entry)) (now (free .entry)) place allowance (now (room .entry))) ⌝ }
+    ensures { λ r. ⌜ now (room .exit) ≡ listingRoom (callOf n (now (on .entry)) (now (free .entry)) place allowance (now (room .entry))) ⌝ }
+{
+    listing::list_primes(n, on, free, place, allowance, &mut *room)
 }

@@ -1,0 +1,193 @@
+-- Where a walk over the table of bases stands, and each way through a turn of its loop as one law. Read next: Ends.
+use mathlib.Core.Path.{_≡_, refl, sym, ap, ap₂, _∙_, subst}
+use mathlib.Core.Bool.{Bool, true, false, cond}
+use mathlib.Core.List.{List, [], _∷_, _++_, map, flatMap, append-assoc, append-nil}
+use Prim.Native.Nat.{ℕ, zero, suc, _+_, _-_, _^_, _≤_, _<_}
+use native.Mathlib.Decide.{ℕ-discrete}
+use native.Mathlib.Numerals.{add-one}
+use native.Mathlib.Omega.{arith}
+use lib.Pow.{pow-pos, pow-mono}
+use lib.ListN.{length, getD, drop, length-append, List·getD-append, drop-of-length-le}
+use lib.Seq.{drop-cons, slice-empty, getD-append-seam}
+use Rattle.gf2.specs.Finite.{Mem, select}
+use Rattle.cubes.specs.Lists.{keep}
+use Rattle.cubes.specs.Candidates.{points, candidatesAt, candidatesOf, candidatesFrom}
+use Rattle.bases.specs.Entries.{entries}
+use Rattle.bases.specs.Bases.{start, stop, entriesOf, takesPoint}
+use Rattle.bases.proofs.Table.{entries-at}
+use Rattle.listing.specs.declared.Tally.{Tally}
+use Rattle.listing.specs.Points.{primeBy}
+use Rattle.listing.specs.Entry.{candidateAt, EntryAt, takenFrom, FirstTaken, lower, ahead}
+use Rattle.listing.specs.Walk.{State, state, pass, walk}
+use Rattle.listing.proofs.Rows.{bounds, taken-cons, entry-mem}
+use Rattle.listing.proofs.Steps.{Kept, pass-kept, walk-on, walk-stop}
+
+-- ---- the points
+
+points-length : (k : ℕ) → length (select (λ p. true) k) ≡ k
+unfolding select
+points-length zero = refl
+points-length (suc k) = omega (arith, length-append (select (λ p. true) k) (k ∷ []), points-length k)
+
+point-at : (k p : ℕ) → p < k → getD (select (λ p. true) k) p 0 ≡ p
+unfolding select
+point-at zero p h = absurd (omega arith)
+point-at (suc k) p h = go (ℕ-discrete p k) (point-at k p)
+  where
+    go : Dec (p ≡ k) → (p < k → getD (select (λ p. true) k) p 0 ≡ p) → getD (select (λ p. true) k ++ (k ∷ [])) p 0 ≡ p
+    go (yes e) f = ap (λ (z : ℕ). getD (select (λ p. true) k ++ (k ∷ [])) z 0) (e ∙ sym (points-length k)) ∙ getD-append-seam (select (λ p. true) k) k [] 0 ∙ sym e
+    go (no m) f = List·getD-append (select (λ p. true) k) (k ∷ []) 0 p (omega (arith, points-length k)) ∙ f (omega arith)
+
+points-cons : (n p : ℕ) → p < 2 ^ n → drop p (points n) ≡ p ∷ drop (suc p) (points n)
+points-cons n p h = drop-cons (points n) p 0 (omega (arith, points-length (2 ^ n))) ∙ ap (λ (z : ℕ). z ∷ drop (suc p) (points n)) (point-at (2 ^ n) p h)
+
+-- ---- what is ahead
+
+ahead-from : (n d p : ℕ) → n ≤ 6 → d ≤ 6 → p < 2 ^ n → flatMap (candidatesAt n d) (drop p (points n)) ++ lower n d ≡ ahead n d p (start d)
+unfolding ahead flatMap entriesOf
+ahead-from n d p hn hd h =
+    ap (λ l. flatMap (candidatesAt n d) l ++ lower n d) (points-cons n p h)
+    ∙ append-assoc (candidatesAt n d p) (flatMap (candidatesAt n d) (drop (suc p) (points n))) (lower n d)
+    ∙ ap (λ l. l ++ (flatMap (candidatesAt n d) (drop (suc p) (points n)) ++ lower n d)) (entries-at n d p hn hd)
+
+from-lower : (n d : ℕ) → candidatesFrom n d ≡ candidatesOf n d ++ lower n d
+unfolding candidatesFrom lower
+from-lower n zero = sym (append-nil (candidatesOf n 0))
+from-lower n (suc d) = refl
+
+-- A degree begins with its first point and entry.
+pub ahead-degree : (n d : ℕ) → n ≤ 6 → d ≤ 6 → candidatesFrom n d ≡ ahead n d 0 (start d)
+unfolding candidatesOf
+ahead-degree n d hn hd = from-lower n d ∙ ahead-from n d 0 hn hd (pow-pos n)
+
+ahead-done : (n d p : ℕ) → ahead n d p (stop d) ≡ flatMap (candidatesAt n d) (drop (suc p) (points n)) ++ lower n d
+unfolding ahead keep
+ahead-done n d p =
+    ap (λ l. map (candidateAt d p) (keep (takesPoint n p) l) ++ (flatMap (candidatesAt n d) (drop (suc p) (points n)) ++ lower n d)) (slice-empty (stop d) entries)
+
+ahead-last : (n d p : ℕ) → 2 ^ n ≤ suc p → ahead n d p (stop d) ≡ lower n d
+unfolding flatMap
+ahead-last n d p h =
+    ahead-done n d p ∙ ap (λ l. flatMap (candidatesAt n d) l ++ lower n d) (drop-of-length-le (points n) {i = suc p} (omega (arith, points-length (2 ^ n))))
+
+ahead-same : (n d p i at : ℕ) → FirstTaken n d p i at → ahead n d p i ≡ ahead n d p at
+unfolding ahead
+ahead-same n d p i at f =
+    ap (λ l. map (candidateAt d p) l ++ (flatMap (candidatesAt n d) (drop (suc p) (points n)) ++ lower n d)) (f .same)
+
+ahead-cons : (n d p i : ℕ) → d ≤ 6 → i < stop d → takesPoint n p (getD entries i 0) ≡ true → ahead n d p i ≡ candidateAt d p (getD entries i 0) ∷ ahead n d p (i + 1)
+unfolding ahead
+ahead-cons n d p i hd h t =
+    ap (λ l. map (candidateAt d p) l ++ (flatMap (candidatesAt n d) (drop (suc p) (points n)) ++ lower n d))
+    (taken-cons n d p i hd h ∙ ap (λ (b : Bool). cond b (getD entries i 0 ∷ takenFrom n d p (i + 1)) (takenFrom n d p (i + 1))) t)
+
+lower-ahead : (n : ℕ) → n ≤ 6 → (d : ℕ) → d ≤ 6 → 0 < d → lower n d ≡ ahead n (d - 1) 0 (start (d - 1))
+unfolding lower
+lower-ahead n six zero hd h = absurd (omega arith)
+lower-ahead n six (suc d) hd h = let q : d ≡ suc d - 1 = omega arith in ahead-degree n d six (omega arith) ∙ ap (λ (k : ℕ). ahead n k 0 (start k)) q
+
+-- ---- where the loop stands
+
+-- The walk from here ends as the whole walk does.
+pub record Stand (n on free long : ℕ) (goal : State) (d p i : ℕ) (s : State) : Type 0 where
+  pub same : walk (primeBy n on free) (ahead n d p i) s ≡ goal
+  pub few : n ≤ 6
+  pub short : d ≤ n
+  pub point : p < 2 ^ n
+  pub from : start d ≤ i
+  pub upto : i ≤ stop d
+  pub kept : Kept long s
+
+pub stand-start : (n on free degree i : ℕ) (t : Tally) (room : List ℕ) → n ≤ 6 → degree ≤ n → i ≡ start degree → t .written ≡ 0
+    → Stand n on free (length room) (walk (primeBy n on free) (candidatesFrom n degree) (state t room)) degree 0 i (state t room)
+stand-start n on free degree i t room h k e w = record {
+  same = ap (λ l. walk (primeBy n on free) l (state t room)) (sym (ahead-degree n degree h (omega arith) ∙ ap (ahead n degree 0) (sym e)));
+  few = h;
+  short = k;
+  point = pow-pos n;
+  from = omega arith;
+  upto = omega (arith, bounds degree (omega arith) .0);
+  kept = record { keeps = refl; wrote = omega arith };
+}
+
+module _ {n on free long : ℕ} {goal : State} {d p i : ℕ} {s : State} (t : Stand n on free long goal d p i s) where
+  pub six : d ≤ 6
+  six = omega (arith, t .few, t .short)
+
+  pub last : stop d ≤ 2825
+  last = bounds d six .1
+
+  pub small : p < 64
+  small = omega (arith, t .point, pow-mono (t .few))
+
+  module _ {at : ℕ} (f : FirstTaken n d p i at) where
+    here : walk (primeBy n on free) (ahead n d p at) s ≡ goal
+    here = ap (λ l. walk (primeBy n on free) l s) (sym (ahead-same n d p i at f)) ∙ t .same
+
+    -- At an entry that is taken.
+    module _ {e : ℕ} (h : at < stop d) (q : e ≡ getD entries at 0) where
+      pub entry-stands : EntryAt n d p e
+      entry-stands = record {
+        few = t .few;
+        short = t .short;
+        point = t .point;
+        listed = subst (λ (z : ℕ). Mem z (entriesOf d)) (sym q) (entry-mem d at six (omega (arith, t .from, f .low)) h);
+        taken = subst (λ (z : ℕ). takesPoint n p z ≡ true) (sym q) (f .taken h);
+      }
+
+      front : walk (primeBy n on free) (candidateAt d p e ∷ ahead n d p (at + 1)) s ≡ goal
+      front = ap (λ l. walk (primeBy n on free) l s) (sym (ahead-cons n d p at six h (f .taken h) ∙ ap (λ (z : ℕ). candidateAt d p z ∷ ahead n d p (at + 1)) (sym q))) ∙ here
+
+      module _ {u : State} (r : u ≡ pass (primeBy n on free) (candidateAt d p e) s) where
+        pub passed-kept : Kept long u
+        passed-kept = subst (Kept long) (sym r) (pass-kept (primeBy n on free) (candidateAt d p e) long s (t .kept))
+
+        pub to-entry : u .tally .stopped ≡ false → Stand n on free long goal d p (at + 1) u
+        to-entry z = record {
+          same = sym (walk-on (primeBy n on free) (candidateAt d p e) (ahead n d p (at + 1)) s u r z) ∙ front;
+          few = t .few;
+          short = t .short;
+          point = t .point;
+          from = omega (arith, t .from, f .low);
+          upto = omega arith;
+          kept = passed-kept;
+        }
+
+        pub at-stop : u .tally .stopped ≡ true → u ≡ goal
+        at-stop z = sym (walk-stop (primeBy n on free) (candidateAt d p e) (ahead n d p (at + 1)) s u r z) ∙ front
+
+    -- At the end of the entries.
+    module _ (h : stop d ≤ at) where
+      ended : at ≡ stop d
+      ended = omega (arith, f .high)
+
+      pub to-point : p + 1 < 2 ^ n → (j : ℕ) → j ≡ start d → Stand n on free long goal d (p + 1) j s
+      to-point l j r = record {
+        same = ap (λ l. walk (primeBy n on free) l s)
+            (ap₂ (λ (q k : ℕ). ahead n d q k) (add-one p) r
+            ∙ sym (ahead-from n d (suc p) (t .few) six (omega arith)) ∙ sym (ahead-done n d p) ∙ ap (ahead n d p) (sym ended)) ∙ here;
+        few = t .few;
+        short = t .short;
+        point = l;
+        from = omega arith;
+        upto = omega (arith, bounds d six .0);
+        kept = t .kept;
+      }
+
+      beyond : 2 ^ n ≤ p + 1 → walk (primeBy n on free) (lower n d) s ≡ goal
+      beyond l = ap (λ l. walk (primeBy n on free) l s) (sym (ahead-last n d p (omega arith)) ∙ ap (ahead n d p) (sym ended)) ∙ here
+
+      pub at-end : 2 ^ n ≤ p + 1 → d ≡ 0 → s ≡ goal
+      unfolding lower walk
+      at-end l z = ap (λ (k : ℕ). walk (primeBy n on free) (lower n k) s) (sym z) ∙ beyond l
+
+      pub to-degree : 2 ^ n ≤ p + 1 → 0 < d → (j : ℕ) → j ≡ start (d - 1) → Stand n on free long goal (d - 1) 0 j s
+      to-degree l z j r = record {
+        same = ap (λ l. walk (primeBy n on free) l s) (ap (ahead n (d - 1) 0) r ∙ sym (lower-ahead n (t .few) d six z)) ∙ beyond l;
+        few = t .few;
+        short = omega (arith, t .short);
+        point = pow-pos n;
+        from = omega arith;
+        upto = omega (arith, bounds (d - 1) (omega (arith, six)) .0);
+        kept = t .kept;
+      }

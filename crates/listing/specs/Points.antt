@@ -1,0 +1,46 @@
+-- Sets of points as masks: bit x of a mask stands for point x. Read next: Entry.
+use mathlib.Core.Path.{_≡_}
+use mathlib.Core.Bool.{Bool, true}
+use mathlib.Core.List.{List, [], _∷_}
+use Prim.Native.Nat.{ℕ, _^_, _<_}
+use lib.ListN.{getD}
+use Rattle.gf2.specs.Bits.{_⊕_, bit}
+use Rattle.gf2.specs.Finite.{Mem, holds}
+use Rattle.cubes.specs.Cubes.{Candidate}
+use Rattle.cubes.specs.Primes.{everyPoint, somePoint, isPrime}
+
+-- The number of places of a mask, which is that of the points of six variables.
+abbrev pub maskSize : ℕ
+maskSize = 64
+
+-- The mask is that of the list of points.
+abbrev pub MaskOf : List ℕ → ℕ → Type 0
+MaskOf points mask = (x : ℕ) → bit x mask ≡ holds points x
+
+-- The mask holds points of n variables alone.
+abbrev pub OfPoints : ℕ → ℕ → Type 0
+OfPoints n mask = (x : ℕ) → bit x mask ≡ true → x < 2 ^ n
+
+-- The places below 64 whose number has bit k clear, as a mask. That it is so is `low-places-at`.
+abbrev pub lowPlaces : ℕ → ℕ
+lowPlaces k =
+    getD (6148914691236517205 ∷ 3689348814741910323 ∷ 1085102592571150095 ∷ 71777214294589695 ∷ 281470681808895 ∷ 4294967295 ∷ []) k 0
+
+-- The mask r holds x exactly if the mask holds x XOR v.
+abbrev pub Moved : ℕ → ℕ → ℕ → Type 0
+Moved v mask r = (x : ℕ) → bit x r ≡ bit (x ⊕ v) mask
+
+-- The vectors fit the mask.
+abbrev pub Fitting : List ℕ → Type 0
+Fitting vectors = (c : ℕ) → Mem c vectors → c < maskSize
+
+-- The mask r holds x exactly if the mask holds every point, or some point, of x XOR the span of the vectors.
+abbrev pub EveryPoint : List ℕ → ℕ → ℕ → Type 0
+EveryPoint vectors mask r = (x : ℕ) → bit x r ≡ everyPoint (λ y. bit y mask) vectors x
+
+abbrev pub SomePoint : List ℕ → ℕ → ℕ → Type 0
+SomePoint vectors mask r = (x : ℕ) → bit x r ≡ somePoint (λ y. bit y mask) vectors x
+
+-- The candidate is a prime of the on and free points that two masks hold.
+abbrev pub primeBy : ℕ → ℕ → ℕ → Candidate → Bool
+primeBy n on free c = isPrime n (λ x. bit x on) (λ x. bit x free) c
