@@ -2840,3 +2840,10 @@ pub fn entry(i: usize) -> u64
 {
     ENTRIES[i]
 }
+
+// The whole table, for a loop over its entries.
+pub fn table() -> [u64; 2825]
+    ensures { λ r. ⌜ r ≡ entries ⌝ }
+{
+    ENTRIES
+}

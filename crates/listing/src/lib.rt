@@ -11,6 +11,7 @@ ghost use lib.Seq.{sets};
 ghost use Rattle.cubes.specs.Candidates.{candidatesFrom, candidateCount};
 ghost use Rattle.cubes.specs.Records.{maxListed, recordLength};
 ghost use Rattle.cubes.specs.Listing.{listingFault, answer, listingRoom};
+ghost use Rattle.bases.specs.Entries.{entries};
 ghost use Rattle.bases.specs.Bases.{start, stop, vectorsOf, takesPoint};
 ghost use Rattle.listing.specs.Points.{OfPoints, primeBy};
 ghost use Rattle.listing.specs.Entry.{candidateAt, EntryAt, FirstTaken, StartsAt};
@@ -59,7 +60,8 @@ fn taken(n: usize, p: u64, entry: u64) -> bool
 }
 
 // The first place from i on whose entry is taken with p, or the end of the entries of d vectors.
-fn first_taken(n: usize, d: usize, p: u64, i: usize) -> usize
+fn first_taken(table: &[u64; 2825], n: usize, d: usize, p: u64, i: usize) -> usize
+    requires { ⌜ now table ≡ entries ⌝ }
     requires { ⌜ n ≤ maxListed ⌝ }
     requires { ⌜ d ≤ maxListed ⌝ }
     requires { ⌜ i ≤ stop d ⌝ }
@@ -68,7 +70,7 @@ fn first_taken(n: usize, d: usize, p: u64, i: usize) -> usize
     let end = stop_of(d);
     let mut at = i;
     while at < end {
-        if taken(n, p, bases::entries::entry(at)) {
+        if taken(n, p, table[at]) {
             return at;
         }
         at += 1;
@@ -224,6 +226,7 @@ fn walk(
     requires { ⌜ degree ≤ n ⌝ }
     ensures { λ r. ⌜ state r (now (room .exit)) ≡ walk (primeBy n on free) (candidatesFrom n degree) (state (starting skip allowance) (now (room .entry))) ⌝ }
 {
+    let table = bases::entries::table();
     let mut tally = Tally {
         skip,
         left: allowance,
@@ -234,9 +237,9 @@ fn walk(
     let mut p: u64 = 0;
     let mut i = start_of(d);
     loop {
-        let at = first_taken(n, d, p, i);
+        let at = first_taken(&table, n, d, p, i);
         if at < stop_of(d) {
-            let entry = bases::entries::entry(at);
+            let entry = table[at];
             tally = pass(on, free, n, d, p, entry, tally, &mut *room);
             if tally.stopped {
                 return tally;

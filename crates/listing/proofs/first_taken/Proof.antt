@@ -12,26 +12,32 @@ use Rattle.listing.proofs.first_taken.Statement.{statement}
 use Rattle.listing.proofs.first_taken.Tie as tie
 
 abbrev Inv-loop : tie.InvT-loop
-Inv-loop n d p i end at₀ at = (i ≤ at) × (at ≤ end) × (takenFrom n d p i ≡ takenFrom n d p at)
+Inv-loop table n d p i end at₀ at = (i ≤ at) × (at ≤ end) × (takenFrom n d p i ≡ takenFrom n d p at)
 
 abbrev μ-loop : tie.MeasureT-loop
-μ-loop n d p i end at₀ at = end - at
+μ-loop table n d p i end at₀ at = end - at
 
 stop-of-requires : tie.Need-stop-of-requires Inv-loop μ-loop
-stop-of-requires c κs = c .pre .1 .0
+stop-of-requires c κs = c .pre .1 .1 .0
 
 loop-holds : tie.Need-loop-holds Inv-loop μ-loop
 loop-holds c = (omega arith, omega (arith, c .before .pre .1 .1, c .stop-of .ensures), refl)
 
-entry-requires : tie.Need-entry-requires Inv-loop μ-loop
-entry-requires c κs = let e = c .before .before in omega (arith, c .loop-test .taken, e .stop-of .ensures, bounds (e .before .args .d) (e .before .pre .1 .0) .1)
+mul-taken : tie.Need-mul-taken Inv-loop μ-loop
+mul-taken c = let e = c .before .before in omega (arith, c .loop-test .taken, e .stop-of .ensures, bounds (e .before .args .d) (e .before .pre .1 .1 .0) .1)
+
+element-copy-out-taken : tie.Need-element-copy-out-taken Inv-loop μ-loop
+element-copy-out-taken c = let e = c .before .before in omega (arith, c .loop-test .taken, e .stop-of .ensures, bounds (e .before .args .d) (e .before .pre .1 .1 .0) .1)
 
 taken-requires : tie.Need-taken-requires Inv-loop μ-loop
-taken-requires c κs = c .before .before .before .before .pre .0
+taken-requires c κs = c .before .before .before .before .pre .1 .0
 
 -- What the test says of the entry.
-test : (c : tie.After-taken Inv-loop μ-loop) → c .taken .result ≡ takesPoint (c .before .before .before .before .before .args .n) (c .before .before .before .before .before .args .p) (getD entries (c .before .before .before .loop .at) 0)
-test c = let a = c .before .before .before .before .before .args in c .taken .ensures ∙ ap (takesPoint (a .n) (a .p)) (c .before .entry .ensures)
+test : (c : tie.After-taken Inv-loop μ-loop)
+    → c .taken .result ≡ takesPoint (c .before .before .before .before .before .args .n) (c .before .before .before .before .before .args .p) (getD entries (c .before .before .before .loop .at) 0)
+test c =
+    let s = c .before .before .before .before .before in
+    c .taken .ensures ∙ ap (λ l. takesPoint (s .args .n) (s .args .p) (getD l (c .before .before .before .loop .at) 0)) (s .pre .0)
 
 returns : tie.Need-returns Inv-loop μ-loop
 returns c =
@@ -52,7 +58,7 @@ loop-again c =
     let a = e .before .args in (
       omega (arith, l .inv .0),
       omega (arith, c .before .before .before .loop-test .taken),
-      l .inv .2 ∙ taken-next (a .n) (a .d) (a .p) (l .at) (e .before .pre .1 .0) (omega (arith, c .before .before .before .loop-test .taken, e .stop-of .ensures)) (sym (test (c .before)) ∙ c .if1 .left),
+      l .inv .2 ∙ taken-next (a .n) (a .d) (a .p) (l .at) (e .before .pre .1 .1 .0) (omega (arith, c .before .before .before .loop-test .taken, e .stop-of .ensures)) (sym (test (c .before)) ∙ c .if1 .left),
     )
 
 returns-2 : tie.Need-returns-2 Inv-loop μ-loop
@@ -69,7 +75,8 @@ first-taken-spec =
     μ-loop
     stop-of-requires
     loop-holds
-    entry-requires
+    mul-taken
+    element-copy-out-taken
     taken-requires
     returns
     add-at

@@ -1,13 +1,15 @@
 -- `listing::walk` meets its contract: the loop stands where `Stand` says, and each way through a turn is one law of it. Assumes nothing.
-use mathlib.Core.Path.{_≡_, refl, _∙_}
+use mathlib.Core.Path.{_≡_, refl, ap, _∙_}
 use Prim.Native.Nat.{ℕ, _+_, _-_, _*_, _%_, _^_, _<_, _≤_}
 use native.Mathlib.Nat.{pos-of-ne-zero, one-mul}
 use native.Mathlib.Omega.{arith}
 use lib.Dec.{lit<}
 use lib.Pow.{shl-exact}
-use lib.ListN.{length}
+use lib.ListN.{length, getD}
+use borrow.Author.Needs.{needs}
 use denote.Ref.{now}
 use Rattle.cubes.specs.Candidates.{candidatesFrom}
+use Rattle.bases.specs.Entries.{entries}
 use Rattle.bases.specs.Bases.{stop}
 use Rattle.listing.specs.Points.{primeBy}
 use Rattle.listing.specs.Entry.{FirstTaken}
@@ -17,121 +19,136 @@ use Rattle.listing.proofs.walk.Statement.{statement}
 use Rattle.listing.proofs.walk.Tie as tie
 
 abbrev Inv-loop : tie.InvT-loop
-Inv-loop on free n degree skip allowance room₀ tally₀ d₀ p₀ i₀ room tally d p i =
+Inv-loop on free n degree skip allowance room₀ table tally₀ d₀ p₀ i₀ room tally d p i =
     Stand n on free (length room₀) (walk (primeBy n on free) (candidatesFrom n degree) (state (starting skip allowance) room₀)) d p i (state tally room)
 
 abbrev μ-loop : tie.MeasureT-loop
-μ-loop on free n degree skip allowance room₀ tally₀ d₀ p₀ i₀ room tally d p i = d * 200000 + (64 - p) * 2900 + (2825 - i)
+μ-loop on free n degree skip allowance room₀ table tally₀ d₀ p₀ i₀ room tally d p i = d * 200000 + (64 - p) * 2900 + (2825 - i)
 
 -- The number of points.
 size : (n : ℕ) → n ≤ 6 → 1 * 2 ^ n % 18446744073709551616 ≡ 2 ^ n
 size n h = shl-exact 1 n 64 (lit< tt) (omega arith) ∙ one-mul (2 ^ n)
 
+table-requires : tie.Need-table-requires Inv-loop μ-loop
+table-requires c κs = search needs
+
 start-of-requires : tie.Need-start-of-requires Inv-loop μ-loop
-start-of-requires c κs = let s = c .before in omega (arith, s .pre .1 .1 .0, s .pre .1 .1 .1)
+start-of-requires c κs = let s = c .before .before in omega (arith, s .pre .1 .1 .0, s .pre .1 .1 .1)
 
 loop-holds : tie.Need-loop-holds Inv-loop μ-loop
 loop-holds c =
-    let s = c .before .before in
+    let s = c .before .before .before in
     let a = s .args in
     stand-start (a .n) (a .on) (a .free) (a .degree) (c .start-of .result) (starting (a .skip) (a .allowance)) (now (a .room)) (s .pre .1 .1 .0) (s .pre .1 .1 .1) (c .start-of .ensures) refl
 
 first-taken-requires : tie.Need-first-taken-requires Inv-loop μ-loop
-first-taken-requires c κs = let t = c .loop .inv in (t .few, (six t, t .upto))
+first-taken-requires c κs = let t = c .before .loop .inv in (c .before .before .before .table .ensures, (t .few, (six t, t .upto)))
 
 stop-of-requires : tie.Need-stop-of-requires Inv-loop μ-loop
-stop-of-requires c κs = six (c .before .loop .inv)
+stop-of-requires c κs = six (c .before .before .loop .inv)
 
--- The first entry taken, and whether it is one.
-found : (c : tie.After-stop-of Inv-loop μ-loop) → FirstTaken (c .before .before .before .before .before .args .n) (c .before .before .loop .d) (c .before .before .loop .p) (c .before .before .loop .i) (c .before .first-taken .result)
+-- The first entry taken, whether it is one, and that it is the table's.
+found : (c : tie.After-stop-of Inv-loop μ-loop)
+    → let l = c .before .before .before in FirstTaken (l .before .before .before .before .args .n) (l .loop .d) (l .loop .p) (l .loop .i) (c .before .first-taken .result)
 found c = c .before .first-taken .ensures
 
-within : (c : tie.Then1 Inv-loop μ-loop) → c .before .before .first-taken .result < stop (c .before .before .before .loop .d)
+within : (c : tie.Then1 Inv-loop μ-loop) → c .before .before .first-taken .result < stop (c .before .before .before .before .loop .d)
 within c = omega (arith, c .if1 .taken, c .before .stop-of .ensures)
 
-beyond : (c : tie.Else1 Inv-loop μ-loop) → stop (c .before .before .before .loop .d) ≤ c .before .before .first-taken .result
+beyond : (c : tie.Else1 Inv-loop μ-loop) → stop (c .before .before .before .before .loop .d) ≤ c .before .before .first-taken .result
 beyond c = omega (arith, c .if1 .left, c .before .stop-of .ensures)
 
-entry-requires : tie.Need-entry-requires Inv-loop μ-loop
-entry-requires c κs = omega (arith, within c, last (c .before .before .before .loop .inv))
+own : (c : tie.Then1 Inv-loop μ-loop)
+    → getD (c .before .before .before .before .before .before .table .result) (c .before .before .first-taken .result) 0 ≡ getD entries (c .before .before .first-taken .result) 0
+own c = ap (λ l. getD l (c .before .before .first-taken .result) 0) (c .before .before .before .before .before .before .table .ensures)
+
+mul-entry : tie.Need-mul-entry Inv-loop μ-loop
+mul-entry c = omega (arith, within c, last (c .before .before .before .before .loop .inv))
+
+array-read-entry : tie.Need-array-read-entry Inv-loop μ-loop
+array-read-entry c = omega (arith, within c, last (c .before .before .before .before .loop .inv))
 
 pass-requires : tie.Need-pass-requires Inv-loop μ-loop
 pass-requires c κs =
-    let s = c .before .before .before .before .before .before .before .before in
-    let t = c .before .before .before .before .before .loop .inv in
-    (s .pre .0, (s .pre .1 .0, (entry-stands t (found (c .before .before .before)) (within (c .before .before)) (c .before .entry .ensures), omega (arith, t .kept .keeps, t .kept .wrote))))
+    let v = c .before in
+    let s = v .before .before .before .before .before .before .before .before in
+    let t = v .before .before .before .before .loop .inv in
+    (s .pre .0, (s .pre .1 .0, (entry-stands t (found (v .before)) (within v) (own v), omega (arith, t .kept .keeps, t .kept .wrote))))
 
 same-length : tie.Need-same-length Inv-loop μ-loop
 same-length c =
     let u = c .before .before .before in
-    let t = u .before .before .before .before .before .before .loop .inv in
-    passed-kept t (found (u .before .before .before .before)) (within (u .before .before .before)) (u .before .before .entry .ensures) (u .pass .ensures) .keeps
+    let v = u .before .before in
+    passed-kept (v .before .before .before .before .loop .inv) (found (v .before)) (within v) (own v) (u .pass .ensures) .keeps
 
 returns : tie.Need-returns Inv-loop μ-loop
 returns c =
     let u = c .before .before .before in
-    let t = u .before .before .before .before .before .before .loop .inv in
-    at-stop t (found (u .before .before .before .before)) (within (u .before .before .before)) (u .before .before .entry .ensures) (u .pass .ensures) (c .if2 .taken)
+    let v = u .before .before in
+    at-stop (v .before .before .before .before .loop .inv) (found (v .before)) (within v) (own v) (u .pass .ensures) (c .if2 .taken)
 
 add-i : tie.Need-add-i Inv-loop μ-loop
-add-i c = let v = c .before .before .before .before .before .before in omega (arith, within v, last (v .before .before .before .loop .inv))
+add-i c = let v = c .before .before .before .before .before in omega (arith, within v, last (v .before .before .before .before .loop .inv))
 
 loop-less : tie.Need-loop-less Inv-loop μ-loop
 loop-less c =
-    let v = c .before .before .before .before .before .before in
-    omega (arith, within v, last (v .before .before .before .loop .inv), found (v .before) .low)
+    let v = c .before .before .before .before .before in
+    omega (arith, within v, last (v .before .before .before .before .loop .inv), found (v .before) .low)
 
 loop-again : tie.Need-loop-again Inv-loop μ-loop
 loop-again c =
     let u = c .before .before .before in
-    let t = u .before .before .before .before .before .before .loop .inv in
-    to-entry t (found (u .before .before .before .before)) (within (u .before .before .before)) (u .before .before .entry .ensures) (u .pass .ensures) (c .if2 .left)
+    let v = u .before .before in
+    to-entry (v .before .before .before .before .loop .inv) (found (v .before)) (within v) (own v) (u .pass .ensures) (c .if2 .left)
 
 add-p : tie.Need-add-p Inv-loop μ-loop
-add-p c = omega (arith, small (c .before .before .before .loop .inv))
+add-p c = omega (arith, small (c .before .before .before .before .loop .inv))
 
 shl-if3 : tie.Need-shl-if3 Inv-loop μ-loop
-shl-if3 c = omega (arith, c .before .before .before .loop .inv .few)
+shl-if3 c = omega (arith, c .before .before .before .before .loop .inv .few)
 
 start-of-requires-2 : tie.Need-start-of-requires-2 Inv-loop μ-loop
-start-of-requires-2 c κs = six (c .before .before .before .before .loop .inv)
+start-of-requires-2 c κs = six (c .before .before .before .before .before .loop .inv)
 
 loop-less-2 : tie.Need-loop-less-2 Inv-loop μ-loop
 loop-less-2 c =
-    let t = c .before .before .before .before .before .loop .inv in
+    let t = c .before .before .before .before .before .before .loop .inv in
     omega (arith, small t, t .upto, last t)
 
 loop-again-2 : tie.Need-loop-again-2 Inv-loop μ-loop
 loop-again-2 c =
     let v = c .before .before in
-    let t = v .before .before .before .loop .inv in
-    to-point t (found (v .before)) (beyond v) (omega (arith, c .before .if3 .taken, size (v .before .before .before .before .before .before .args .n) (t .few))) (c .start-of2 .result) (c .start-of2 .ensures)
+    let l = v .before .before .before .before in
+    let t = l .loop .inv in
+    to-point t (found (v .before)) (beyond v) (omega (arith, c .before .if3 .taken, size (l .before .before .before .before .args .n) (t .few))) (c .start-of2 .result) (c .start-of2 .ensures)
 
 same-length-2 : tie.Need-same-length-2 Inv-loop μ-loop
-same-length-2 c = c .before .before .before .before .before .loop .inv .kept .keeps
+same-length-2 c = c .before .before .before .before .before .before .loop .inv .kept .keeps
 
 returns-2 : tie.Need-returns-2 Inv-loop μ-loop
 returns-2 c =
     let v = c .before .before in
-    let t = v .before .before .before .loop .inv in
-    at-end t (found (v .before)) (beyond v) (omega (arith, c .before .if3 .left, size (v .before .before .before .before .before .before .args .n) (t .few))) (c .if4 .taken)
+    let l = v .before .before .before .before in
+    let t = l .loop .inv in
+    at-end t (found (v .before)) (beyond v) (omega (arith, c .before .if3 .left, size (l .before .before .before .before .args .n) (t .few))) (c .if4 .taken)
 
 sub-d : tie.Need-sub-d Inv-loop μ-loop
 sub-d c = pos-of-ne-zero (c .if4 .left)
 
 start-of-requires-3 : tie.Need-start-of-requires-3 Inv-loop μ-loop
-start-of-requires-3 c κs = omega (arith, six (c .before .before .before .before .before .loop .inv))
+start-of-requires-3 c κs = omega (arith, six (c .before .before .before .before .before .before .loop .inv))
 
 loop-less-3 : tie.Need-loop-less-3 Inv-loop μ-loop
 loop-less-3 c =
-    let t = c .before .before .before .before .before .before .loop .inv in
+    let t = c .before .before .before .before .before .before .before .loop .inv in
     omega (arith, pos-of-ne-zero (c .before .if4 .left), small t, t .upto, last t)
 
 loop-again-3 : tie.Need-loop-again-3 Inv-loop μ-loop
 loop-again-3 c =
     let v = c .before .before .before in
-    let t = v .before .before .before .loop .inv in
-    to-degree t (found (v .before)) (beyond v) (omega (arith, c .before .before .if3 .left, size (v .before .before .before .before .before .before .args .n) (t .few)))
+    let l = v .before .before .before .before in
+    let t = l .loop .inv in
+    to-degree t (found (v .before)) (beyond v) (omega (arith, c .before .before .if3 .left, size (l .before .before .before .before .args .n) (t .few)))
     (pos-of-ne-zero (c .before .if4 .left)) (c .start-of3 .result) (c .start-of3 .ensures)
 
 pub walk-spec : {M : Type 1} → statement M
@@ -140,11 +157,13 @@ walk-spec =
     (tie.spec
     Inv-loop
     μ-loop
+    table-requires
     start-of-requires
     loop-holds
     first-taken-requires
     stop-of-requires
-    entry-requires
+    mul-entry
+    array-read-entry
     pass-requires
     same-length
     returns
