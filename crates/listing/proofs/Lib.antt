@@ -7,5 +7,6 @@ pub mod PrimeTest
 pub mod Steps
 pub mod Stand
 pub mod Ends
+pub mod Degrees
 pub mod Refusals
 pub mod Finish

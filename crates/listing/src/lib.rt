@@ -8,7 +8,7 @@ ghost use mathlib.Core.List.{[], _∷_};
 ghost use Prim.Native.Nat.{_+_, _*_, _^_, _≤_, _<_};
 ghost use lib.ListN.{length};
 ghost use lib.Seq.{sets};
-ghost use Rattle.cubes.specs.Candidates.{candidatesFrom, candidateCount};
+ghost use Rattle.cubes.specs.Candidates.{candidatesOf, candidatesFrom, candidateCount};
 ghost use Rattle.cubes.specs.Records.{maxListed, recordLength};
 ghost use Rattle.cubes.specs.Listing.{listingFault, answer, listingRoom};
 ghost use Rattle.bases.specs.Entries.{entries};
@@ -279,15 +279,83 @@ fn candidate_count(n: usize) -> u64
     COUNTS[n]
 }
 
-// The start of a listing at a place.
+// How many candidates of degree d n variables have, seven numbers for each n from 0 to 6.
+const DEGREE_COUNTS: [u64; 49] = [
+    1,
+    0,
+    0,
+    0,
+    0,
+    0,
+    0,
+    2,
+    1,
+    0,
+    0,
+    0,
+    0,
+    0,
+    4,
+    6,
+    1,
+    0,
+    0,
+    0,
+    0,
+    8,
+    28,
+    14,
+    1,
+    0,
+    0,
+    0,
+    16,
+    120,
+    140,
+    30,
+    1,
+    0,
+    0,
+    32,
+    496,
+    1240,
+    620,
+    62,
+    1,
+    0,
+    64,
+    2016,
+    10416,
+    11160,
+    2604,
+    126,
+    1,
+];
+
+fn degree_count(n: usize, d: usize) -> u64
+    requires { ⌜ n ≤ maxListed ⌝ }
+    requires { ⌜ d ≤ maxListed ⌝ }
+    ensures { λ r. ⌜ r ≡ length (candidatesOf n d) ⌝ }
+{
+    DEGREE_COUNTS[n * 7 + d]
+}
+
+// The start of a listing at a place: whole degrees before the place are passed at once.
 fn start_at(n: usize, place: u64) -> Start
     requires { ⌜ n ≤ maxListed ⌝ }
     ensures { λ r. ⌜ StartsAt n place r ⌝ }
 {
-    Start {
-        degree: n,
-        skip: place,
+    let mut degree = n;
+    let mut skip = place;
+    while degree > 0 {
+        let count = degree_count(n, degree);
+        if skip < count {
+            return Start { degree, skip };
+        }
+        skip -= count;
+        degree -= 1;
     }
+    Start { degree, skip }
 }
 
 // The refusal of a listing call, or 0: those of the table, then too many variables, then a place above the number of candidates.

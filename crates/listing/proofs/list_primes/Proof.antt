@@ -1,6 +1,5 @@
 -- `listing::list_primes` meets its contract: a refusal by the tests, or the end of the walk. Assumes nothing.
 use mathlib.Core.Path.{_≡_, sym, _∙_}
-use Prim.Native.Nat.{_-_}
 use native.Mathlib.Omega.{arith}
 use borrow.Author.Needs.{needs}
 use denote.Ref.{now}
