@@ -10,6 +10,7 @@ mod complete;
 mod form_points;
 mod form_rewrite;
 mod linear_space;
+mod list_primes;
 mod lists;
 mod read_table;
 
@@ -19,5 +20,6 @@ pub use complete::{complete, Completion};
 pub use form_points::{form_points, FormPoints};
 pub use form_rewrite::{form_rewrite, FormRewrite};
 pub use linear_space::{linear_space, LinearSpace};
+pub use list_primes::{list_primes, Listed};
 pub use lists::{Basis, ShortList};
 pub use read_table::{read_table, TableRead};

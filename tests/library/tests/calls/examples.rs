@@ -1,7 +1,7 @@
 //! The worked examples, as far as these calls answer them, with the answers that
 //! document 01 prints. Follows document 01, section "Table of proved examples".
 
-use library::{Basis, ShortList};
+use library::{Basis, Listed, ShortList};
 
 const P5_ON: [u16; 10] = [4, 5, 6, 7, 9, 10, 12, 13, 14, 15];
 
@@ -24,6 +24,16 @@ fn list(values: &[u16]) -> ShortList {
     list.values[..values.len()].copy_from_slice(values);
     list.len = values.len();
     list
+}
+
+/// Numbers of an accepted listing.
+fn listed(next: u64, passed: u64, records: usize) -> Listed {
+    Listed {
+        refusal: 0,
+        next,
+        passed,
+        records,
+    }
 }
 
 /// Degree and restriction of a table without free points.
@@ -75,6 +85,10 @@ fn p4_parity_of_three() {
     assert_eq!(found.equations, list(&[7]));
     assert_eq!(found.count, 1);
     assert_eq!(room, [1, 9, 9]);
+    let mut room = [9; 9];
+    let found = library::list_primes(3, &[1, 2, 4, 7], &[], 0, u64::MAX, &mut room);
+    assert_eq!(found, listed(51, 51, 1));
+    assert_eq!(room, [2, 1, 3, 5, 0, 0, 0, 0, 9]);
 }
 
 #[test]
@@ -94,6 +108,21 @@ fn p5_four_variables() {
 }
 
 #[test]
+fn p6_five_primes() {
+    let mut room = [9; 41];
+    let found = library::list_primes(3, &[2, 3, 5, 6, 7], &[], 0, u64::MAX, &mut room);
+    assert_eq!(found, listed(51, 51, 5));
+    let records: [[u8; 8]; 5] = [
+        [2, 2, 1, 4, 0, 0, 0, 0],
+        [1, 2, 7, 0, 0, 0, 0, 0],
+        [1, 3, 6, 0, 0, 0, 0, 0],
+        [1, 5, 2, 0, 0, 0, 0, 0],
+        [1, 5, 3, 0, 0, 0, 0, 0],
+    ];
+    assert_eq!(room, [&records.concat()[..], &[9]].concat()[..]);
+}
+
+#[test]
 fn p7_smallest_affine_space() {
     let mut room = [9; 6];
     let found = library::affine(4, &[2, 4, 6, 11, 13], &mut room);
@@ -110,4 +139,18 @@ fn p8_equal_degrees() {
     assert_eq!((found.refusal, found.degree, found.count), (0, 0, 1));
     assert_eq!((found.low, found.high), (0, 0));
     assert_eq!(room, [0, 9, 9]);
+}
+
+#[test]
+fn p9_no_prime_and_the_end() {
+    let mut room = [9; 8];
+    let mut list = |place| library::list_primes(2, &[], &[0], place, u64::MAX, &mut room);
+    assert_eq!(list(0), listed(11, 11, 0));
+    assert_eq!(list(11), listed(11, 0, 0));
+    let refused = Listed {
+        refusal: 9,
+        ..Default::default()
+    };
+    assert_eq!(list(12), refused);
+    assert_eq!(room, [9; 8]);
 }

@@ -1,7 +1,7 @@
 //! Comparison of each call of the static library with the reference, one module
 //! to a call; `examples`, `published` and `vectors` compare with fixed answers
-//! instead. Follows document 01, sections "Points and spaces", "The written
-//! form", "Refusal numbers" and "Table of proved examples".
+//! instead. Follows document 01, sections "Points and spaces", "Primes", "The
+//! written form", "Refusal numbers" and "Table of proved examples".
 //!
 //! A further call takes a module here with its own `compare` and the inputs of
 //! `tables`, `lists`, `stored` and `forms`, and one in the package's `src`
@@ -20,6 +20,7 @@ mod complete;
 mod form_points;
 mod form_rewrite;
 mod linear_space;
+mod list_primes;
 mod read_table;
 
 mod examples;

@@ -1,12 +1,12 @@
 //! Times of the static library's calls beside plain Rust with the same
-//! algorithms, in one run, and their ratio. Follows document 01, section "Points
-//! and spaces". The address at which a tight loop happens to stand changes its
+//! algorithms, in one run, and their ratio. Follows document 01, sections "Points
+//! and spaces" and "Primes". The address at which a tight loop happens to stand changes its
 //! time by up to a third, on either side, so a ratio says no more than that.
 
 mod measure;
 mod plain;
 
-use library::{Analysis, Completion};
+use library::{Analysis, Completion, Listed};
 use measure::compare;
 use reference::generate::{self, Generator};
 use reference::table::Table;
@@ -76,6 +76,67 @@ fn point_call<T: PartialEq + Debug>(
     );
 }
 
+/// The listing call.
+type ListingCall = fn(usize, &[u16], &[u16], u64, u64, &mut [u8]) -> Listed;
+
+/// Bytes for more records than any table of six variables has primes here.
+const RECORDS_LENGTH: usize = 65_536;
+
+/// Makes a listing call, hidden from the optimizer.
+fn list(call: ListingCall, table: &Table, place: u64, allowance: u64, room: &mut [u8]) -> Listed {
+    let (n, on, free) = black_box(table);
+    call(*n, on, free, place, allowance, black_box(room))
+}
+
+/// Times listing calls at each place, after a comparison of what both sides
+/// return and write.
+fn listing(title: &str, table: &Table, places: &[u64], allowance: u64) {
+    let (mut library_room, mut plain_room) = (vec![0; RECORDS_LENGTH], vec![0; RECORDS_LENGTH]);
+    for &place in places {
+        let answer = list(
+            library::list_primes,
+            table,
+            place,
+            allowance,
+            &mut library_room,
+        );
+        let plain_answer = list(plain::list_primes, table, place, allowance, &mut plain_room);
+        assert_eq!(answer, plain_answer);
+        assert_eq!(library_room, plain_room);
+    }
+    compare(
+        &format!("list primes, {title}"),
+        places,
+        |&place| {
+            list(
+                library::list_primes,
+                table,
+                place,
+                allowance,
+                &mut library_room,
+            )
+        },
+        |&place| list(plain::list_primes, table, place, allowance, &mut plain_room),
+    );
+}
+
+/// From one place to the next of the calls of one candidate each; 1 makes all
+/// 26,387 calls.
+const STRIDE: usize = 1_000;
+
+/// Times listings of six variables: whole in one call, and of one candidate to a
+/// call.
+fn listings() {
+    let random = generate::random_table(&mut Generator::new(1), 6, 40, 20);
+    let one_on = (6, vec![0], (1..64).collect());
+    listing("n 6, random", &random, &[0], u64::MAX);
+    listing("n 6, parity", &generate::weight_bit(6, 0), &[0], u64::MAX);
+    listing("n 6, all on", &generate::threshold(6, 0), &[0], u64::MAX);
+    listing("n 6, all free but one", &one_on, &[0], u64::MAX);
+    let places: Vec<u64> = (0..26_387).step_by(STRIDE).collect();
+    listing("n 6, random, allowance 1", &random, &places, 1);
+}
+
 fn main() {
     let with_free = random_tables(40, 20);
     measure::print_head();
@@ -95,4 +156,5 @@ fn main() {
         library::complete,
         plain::complete,
     );
+    listings();
 }

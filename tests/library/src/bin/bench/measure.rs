@@ -1,11 +1,15 @@
 //! Measures two ways to do the same work, in turns, and prints both times. The
-//! work is that of document 01, section "Points and spaces".
+//! work is that of document 01, sections "Points and spaces" and "Primes".
 
 use std::hint::black_box;
 use std::time::{Duration, Instant};
 
-/// Fewest turns of each side; the shortest time of a side counts.
+/// Fewest turns of each side, if the time for them suffices; the shortest time of
+/// a side counts.
 const FEWEST_TURNS: usize = 300;
+
+/// After this time fewer turns are enough.
+const MOST_TIME: Duration = Duration::from_secs(10);
 
 /// Both sides go on for at least this time.
 const LEAST_TIME: Duration = Duration::from_secs(1);
@@ -37,7 +41,8 @@ pub fn compare<I, T>(
 ) {
     let (mut library_time, mut plain_time) = (Duration::MAX, Duration::MAX);
     let (mut turn, start) = (0, Instant::now());
-    while turn < FEWEST_TURNS || start.elapsed() < LEAST_TIME {
+    let wants_turns = |turn, time| turn < FEWEST_TURNS && time < MOST_TIME;
+    while wants_turns(turn, start.elapsed()) || start.elapsed() < LEAST_TIME {
         let library_first = turn % 2 == 0;
         if library_first {
             library_time = library_time.min(time(inputs, &mut library));
