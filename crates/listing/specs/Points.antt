@@ -21,7 +21,7 @@ MaskOf points mask = (x : ℕ) → bit x mask ≡ holds points x
 abbrev pub OfPoints : ℕ → ℕ → Type 0
 OfPoints n mask = (x : ℕ) → bit x mask ≡ true → x < 2 ^ n
 
--- The places below 64 whose number has bit k clear, as a mask. That it is so is `low-places-at`.
+-- The places below 64 whose number has bit k clear, as a mask. That it is so is `all-places`.
 abbrev pub lowPlaces : ℕ → ℕ
 lowPlaces k =
     getD (6148914691236517205 ∷ 3689348814741910323 ∷ 1085102592571150095 ∷ 71777214294589695 ∷ 281470681808895 ∷ 4294967295 ∷ []) k 0

@@ -15,19 +15,6 @@ use reference::table::Table;
 /// Numbers of candidates for n from 1 to 6, as document 01 prints them.
 const ENDS: [u64; 6] = [3, 11, 51, 307, 2_451, 26_387];
 
-/// Whether every table of a case is taken, or only one of so many, for a short
-/// run.
-const WHOLE: bool = false;
-
-/// The step from one table of a case to the next.
-fn step(short_run: usize) -> usize {
-    if WHOLE {
-        1
-    } else {
-        short_run
-    }
-}
-
 /// On points of P6, whose first prime is 2 (1, 4).
 const P6_ON: [u16; 5] = [2, 3, 5, 6, 7];
 
@@ -328,7 +315,7 @@ fn check_tables(
          in lists, {} accepted, {} of them stopped by the room",
         sum.calls, sum.accepted, sum.short_rooms
     );
-    assert!(!WHOLE || with_prime >= fewest_with_prime);
+    assert!(with_prime >= fewest_with_prime);
     tally.finish(&[0, 1, 2, 3, 4, 5, 9]);
 }
 
@@ -336,14 +323,14 @@ fn check_tables(
 fn every_table_of_one_and_two_variables() {
     let title = "list primes, every table of one and two variables";
     let tables = tables::small_tables().take(9 + 81);
-    check_tables(title, 160, 2, 9 + 81 - 4 - 16, tables.step_by(step(4)));
+    check_tables(title, 160, 2, 9 + 81 - 4 - 16, tables);
 }
 
 #[test]
 fn every_table_of_three_variables() {
     let title = "list primes, every table of three variables";
     let tables = tables::small_tables().skip(9 + 81);
-    check_tables(title, 168, 2, 6561 - 256, tables.step_by(step(2001)));
+    check_tables(title, 168, 2, 6561 - 256, tables);
 }
 
 /// Every place, allowance and room on every table of one and two variables; all
@@ -351,7 +338,7 @@ fn every_table_of_three_variables() {
 #[test]
 fn every_call_of_one_and_two_variables() {
     let mut tally = Tally::new("list primes, every call of one and two variables");
-    for (n, on, free) in tables::small_tables().take(if WHOLE { 9 + 81 } else { 9 }) {
+    for (n, on, free) in tables::small_tables().take(9 + 81) {
         let table = LentTable::new(n, &on, &free);
         let primes = Primes::of(&(n, on, free));
         let end = ENDS[n - 1];
@@ -375,21 +362,21 @@ fn tables_of(n: usize, seed: u64) -> impl Iterator<Item = Table> {
 #[test]
 fn tables_of_four_variables() {
     let title = "list primes, four variables";
-    let tables = tables_of(4, 162).step_by(step(160));
+    let tables = tables_of(4, 162);
     check_tables(title, 161, 2, 230, tables);
 }
 
 #[test]
 fn tables_of_five_variables() {
     let title = "list primes, five variables";
-    let tables = tables_of(5, 164).skip(59).step_by(step(250));
+    let tables = tables_of(5, 164).skip(59);
     check_tables(title, 163, 1, 200, tables);
 }
 
 #[test]
 fn tables_of_six_variables() {
     let title = "list primes, six variables";
-    let tables = tables_of(6, 165).skip(62).step_by(5).step_by(step(53));
+    let tables = tables_of(6, 165).skip(62).step_by(5);
     check_tables(title, 166, 1, 40, tables);
 }
 
@@ -403,7 +390,6 @@ fn candidates_as_their_own_primes() {
         let candidates = primes::candidates(n);
         assert_eq!(candidates.len() as u64, ENDS[n - 1]);
         let by = if n == 6 { 23 } else { 1 };
-        let by = by * step([1, 2, 13, 150, 2_000, 26_000][n - 1]);
         for (place, cube) in candidates.iter().enumerate().step_by(by) {
             let table = LentTable::new(n, &primes::points_of(cube.members), &[]);
             let (at, end) = (place as u64, ENDS[n - 1]);
@@ -428,10 +414,10 @@ fn free_points_alone() {
     let mut generator = Generator::new(167);
     for n in 1..=6 {
         let end = ENDS[n - 1];
-        for free_percent in [50, 100, 0, 10, 30, 70, 90].into_iter().step_by(step(n)) {
+        for free_percent in [50, 100, 0, 10, 30, 70, 90] {
             let (_, on, free) = generate::random_table(&mut generator, n, 0, free_percent);
             let table = LentTable::new(n, &on, &free);
-            for length in [0, 7, 8, 100].into_iter().step_by(step(3)) {
+            for length in [0, 7, 8, 100].into_iter() {
                 let found = table.call(&mut tally, (0, u64::MAX, length));
                 assert_eq!(found, (listed(end, end, 0), vec![]));
             }
@@ -450,8 +436,8 @@ fn the_end_and_beyond() {
         let everywhere: Vec<u16> = (0..1 << n).collect();
         for on in [&[], &everywhere[..1], &everywhere] {
             let table = LentTable::new(n, on, &[]);
-            for allowance in [u64::MAX, 0, 1].into_iter().step_by(step(2)) {
-                for length in [0, 8, 16].into_iter().step_by(step(2)) {
+            for allowance in [u64::MAX, 0, 1].into_iter() {
+                for length in [0, 8, 16].into_iter() {
                     let mut call = |place| table.call(&mut tally, (place, allowance, length));
                     assert_eq!(call(end), (listed(end, 0, 0), vec![]));
                     let beyond = [end + 1, end + (1 << 32), u64::MAX - 1, u64::MAX];
@@ -468,7 +454,7 @@ fn the_end_and_beyond() {
 #[test]
 fn faulty_lists() {
     let mut tally = Tally::new("list primes, faulty lists");
-    for (n, on, free) in lists::pairs().step_by(step(3)) {
+    for (n, on, free) in lists::pairs() {
         let table = LentTable::new(n, &on, &free);
         let end = ENDS[n.clamp(1, 6) - 1];
         for call in [

@@ -120,10 +120,6 @@ fn listing(title: &str, table: &Table, places: &[u64], allowance: u64) {
     );
 }
 
-/// From one place to the next of the calls of one candidate each; 1 makes all
-/// 26,387 calls.
-const STRIDE: usize = 1_000;
-
 /// Times listings of six variables: whole in one call, and of one candidate to a
 /// call.
 fn listings() {
@@ -133,7 +129,7 @@ fn listings() {
     listing("n 6, parity", &generate::weight_bit(6, 0), &[0], u64::MAX);
     listing("n 6, all on", &generate::threshold(6, 0), &[0], u64::MAX);
     listing("n 6, all free but one", &one_on, &[0], u64::MAX);
-    let places: Vec<u64> = (0..26_387).step_by(STRIDE).collect();
+    let places: Vec<u64> = (0..26_387).collect();
     listing("n 6, random, allowance 1", &random, &places, 1);
 }
 
