@@ -1,0 +1,2 @@
+-- Claims about the whole library.
+pub mod Examples

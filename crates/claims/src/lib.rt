@@ -1,0 +1,1 @@
+// What is claimed of the whole library; there is no code here. Read next: proofs/Examples.antt, document 01's table of proved examples.
