@@ -1,7 +1,7 @@
 //! The listing call in plain Rust: the reduced bases of six variables in one
 //! table, degree falling, then vector by vector; sets of points as numbers of 64
-//! bits; all cosets of a basis tested at once. Follows document 01, section
-//! "Primes".
+//! bits; all cosets of a basis tested at once; whole degrees before the place
+//! passed at once. Follows document 01, section "Primes".
 
 use super::table::checked;
 use library::Listed;
@@ -57,6 +57,21 @@ fn bases() -> &'static Bases {
     })
 }
 
+/// How many candidates of each degree n variables have, made once.
+fn degree_counts() -> &'static [[u64; MOST_VARIABLES + 1]; MOST_VARIABLES + 1] {
+    static COUNTS: OnceLock<[[u64; MOST_VARIABLES + 1]; MOST_VARIABLES + 1]> = OnceLock::new();
+    COUNTS.get_or_init(|| {
+        let mut counts = [[0; MOST_VARIABLES + 1]; MOST_VARIABLES + 1];
+        for (n, row) in counts.iter_mut().enumerate() {
+            for (degree, count) in row.iter_mut().enumerate().take(n + 1) {
+                let fitting = bases()[degree].iter().filter(|entry| entry.leads < 1 << n);
+                *count = (fitting.count() as u64) << (n - degree);
+            }
+        }
+        counts
+    })
+}
+
 /// The places whose number has bit k clear.
 const LOW_PLACES: [u64; MOST_VARIABLES] = [
     0x5555_5555_5555_5555,
@@ -106,6 +121,11 @@ fn walk(
 ) -> (u64, usize) {
     let (mut skip, mut passed, mut records) = (place, 0, 0);
     for degree in (0..=n).rev() {
+        let count = degree_counts()[n][degree];
+        if degree > 0 && skip >= count {
+            skip -= count;
+            continue;
+        }
         for point in 0..1u64 << n {
             for entry in &bases()[degree] {
                 let leads = u64::from(entry.leads);
