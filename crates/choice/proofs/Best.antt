@@ -245,7 +245,7 @@ module _ {m on d x : ℕ} (s : Search m on d x) (prime : Candidate → Bool) (r 
           let c = holding d x (f .place) in
           let e : candidateAt d (r .point) (r .entry) ≡ c = rw (f .entry, f .point) in
           let k : Mem c (candidatesOf m d) =
-              subst (λ (z : ℕ). Mem c (candidatesOf m z)) (vectors-length d (at (f .place))) (degree-complete m c (entry-candidate (entry-of f))) in
+          subst (λ (z : ℕ). Mem c (candidatesOf m z)) (vectors-length d (at (f .place))) (degree-complete m c (entry-candidate (entry-of f))) in
           ap (λ (z : ℕ). candidateAt z (r .point) (r .entry) ∷ []) (f .degree) ∙ ap (λ z. z ∷ []) e
           ∙ sym (first-least Before (keep prime (candidatesOf m d)) (ordered-keep Before prime (candidatesOf m d) (degree-ordered m d)) x c
           (mem-keep prime (candidatesOf m d) c k (f .passes)) (holding-point s (at (f .place)) (entry-mem d (f .place) (six s) (f .low) (f .high)))

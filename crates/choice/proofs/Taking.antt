@@ -126,20 +126,28 @@ primes-by m on mask h = ap₂ (λ (f g : ℕ → Bool). keep (isPrime m f g) (ca
 pub search-at : (m : ℕ) (on : List ℕ) (mask x : ℕ) → m ≤ 6 → outside m on ≡ false → MaskOf on mask → x < 2 ^ m → Search m mask m x
 search-at m on mask x h o w l = record { few = h; inside = λ y t. inside m on o y (holds-mem on y .0 (sym (w y) ∙ t)); short = omega arith; point = l }
 
+-- The lists of the choice have a place for each of 64 primes.
+pub record Long (r : Choice) : Type 0 where
+  pub degrees : length (r .degrees) ≡ 64
+  pub points : length (r .points) ≡ 64
+  pub entries : length (r .entries) ≡ 64
+
 -- The points before place i have been gone through: the choice so far goes on to what is chosen, and the flags set are those of the points covered.
 pub record TakenTo (m : ℕ) (on : List ℕ) (i : ℕ) (flags : List Bool) (r : Choice) : Type 0 where
   pub upto : i ≤ length on
   pub same : takenThrough (primesOf m on) (chosenBy r (r .count)) (drop i on) ≡ chosen m on
   pub count : r .count ≤ i
+  pub long : Long r
   pub flagged : (y : ℕ) → y < maxPoints → getD flags y false ≡ covered (chosenBy r (r .count)) y
   pub entry : (k : ℕ) → k < r .count → EntryAt m (getD (r .degrees) k 0) (getD (r .points) k 0) (getD (r .entries) k 0)
 
-pub taken-start : (m : ℕ) (on ds ps es : List ℕ) → TakenTo m on 0 (replicate maxPoints false) (record { count = 0; degrees = ds; points = ps; entries = es })
+pub taken-start : (m : ℕ) (on : List ℕ) → TakenTo m on 0 (replicate maxPoints false) (record { count = 0; degrees = replicate 64 0; points = replicate 64 0; entries = replicate 64 0 })
 unfolding chosen covered chosenBy
-taken-start m on ds ps es = record {
+taken-start m on = record {
   upto = omega arith;
   same = refl;
   count = omega arith;
+  long = record { degrees = refl; points = refl; entries = refl };
   flagged = λ y h. getD-replicate maxPoints y false false h;
   entry = λ k h. absurd (omega arith);
 }
@@ -156,6 +164,7 @@ module _ (m : ℕ) (on : List ℕ) (i : ℕ) (flags : List Bool) (r : Choice) (w
     same = ap (λ l. takenThrough (primesOf m on) l (drop (i + 1) on)) (sym (append-nil (chosenBy r (r .count))) ∙ ap (λ l. chosenBy r (r .count) ++ l) (sym q))
         ∙ ap (takenThrough (primesOf m on) (chosenBy r (r .count))) (sym next) ∙ w .same;
     count = omega (arith, w .count);
+    long = w .long;
     flagged = w .flagged;
     entry = w .entry;
   }
@@ -173,16 +182,24 @@ module _ (m : ℕ) (on : List ℕ) (i : ℕ) (flags : List Bool) (r : Choice) (w
     pub taken-nothing : f .any ≡ false → TakenTo m on (i + 1) flags r
     taken-nothing a = taken-none (taken-is ∙ found-none f a)
 
-    pub taken-one : f .any ≡ true → EntryAt m (f .degree) (f .point) (f .entry) → r .count < length (r .degrees) → r .count < length (r .points) → r .count < length (r .entries)
+    pub taken-one : f .any ≡ true → EntryAt m (f .degree) (f .point) (f .entry) → r .count < 64
         → (u : List Bool) → Marks (candidateAt (f .degree) (f .point) (f .entry)) flags u → TakenTo m on (i + 1) u (added r (f .degree) (f .point) (f .entry))
     unfolding takenThrough
-    taken-one a k hd hp he u marks =
+    taken-one a k room u marks =
+        let hd : r .count < length (r .degrees) = omega (arith, w .long .degrees) in
+        let hp : r .count < length (r .points) = omega (arith, w .long .points) in
+        let he : r .count < length (r .entries) = omega (arith, w .long .entries) in
         let b = added-by r (f .degree) (f .point) (f .entry) hd hp he in
         let c = candidateAt (f .degree) (f .point) (f .entry) in record {
           upto = omega arith;
           same = ap (λ l. takenThrough (primesOf m on) l (drop (i + 1) on)) (b ∙ ap (λ l. chosenBy r (r .count) ++ l) (sym (taken-is ∙ found-one f a)))
               ∙ ap (takenThrough (primesOf m on) (chosenBy r (r .count))) (sym next) ∙ w .same;
           count = omega (arith, w .count);
+          long = record {
+            degrees = length-set (r .degrees) (r .count) (f .degree) ∙ w .long .degrees;
+            points = length-set (r .points) (r .count) (f .point) ∙ w .long .points;
+            entries = length-set (r .entries) (r .count) (f .entry) ∙ w .long .entries;
+          };
           flagged = λ y l. marks y l ∙ ap (λ (z : Bool). z || pointsOf c y) (w .flagged y l) ∙ sym (covered-next (chosenBy r (r .count)) c y) ∙ ap (λ z. covered z y) (sym b);
           entry = added-entry r (f .degree) (f .point) (f .entry) hd hp he m (w .entry) k;
         }

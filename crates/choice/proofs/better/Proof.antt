@@ -53,8 +53,10 @@ is-prime-requires c κs =
     let s = l .before .before in
     let a = s .args in (
       s .pre .0 .inside,
-      (λ x t. clash t (bit-zero x),
-      subst (λ (z : ℕ). EntryAt (a .m) (a .d) z (a .entry)) (sym (l .least-point .ensures)) (holding-entry (s .pre .0) (a .entry) (s .pre .1) (fits (l .before)))),
+      (
+        λ x t. clash t (bit-zero x),
+        subst (λ (z : ℕ). EntryAt (a .m) (a .d) z (a .entry)) (sym (l .least-point .ensures)) (holding-entry (s .pre .0) (a .entry) (s .pre .1) (fits (l .before))),
+      ),
     )
 
 returns-3 : tie.Need-returns-3
