@@ -69,10 +69,11 @@ returns c =
     let e = c .before .before .before .before .before .before in
     let l = c .before .before .before .before .before .loop in
     let a = e .before .args in
+    let z : l .left ≡ 0 = omega (arith, c .if2 .taken) in
     record {
       low = l .inv .0;
       high = omega (arith, l .inv .1, e .stop-of .ensures);
-      same = λ rest. l .inv .2 rest ∙ ap (λ (k : ℕ). drop k (placed (a .n) (a .d) (a .p) (l .at) rest)) (c .if2 .taken);
+      same = λ rest. l .inv .2 rest ∙ ap (λ (k : ℕ). drop k (placed (a .n) (a .d) (a .p) (l .at) rest)) z;
       taken = λ h. (refl, sym (test (c .before .before)) ∙ not-false (c .before .before .taken .result) (c .before .if1 .left));
     }
 
