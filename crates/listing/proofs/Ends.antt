@@ -16,8 +16,8 @@ use Rattle.cubes.specs.Listing.{Passage, nothing, passage}
 use Rattle.cubes.specs.Listing as rule
 use Rattle.cubes.proofs.Listing.{record-length}
 use Rattle.listing.specs.declared.Tally.{Tally}
-use Rattle.listing.specs.Walk.{starting, skipping, passing, writing, stopping, State, state, walk}
-use Rattle.listing.proofs.Steps.{pass-skip, pass-spent, pass-off, pass-full, pass-write, walk-on, walk-stop}
+use Rattle.listing.specs.Walk.{starting, passing, writing, stopping, State, state, walk}
+use Rattle.listing.proofs.Steps.{pass-spent, pass-off, pass-full, pass-write, walk-on, walk-stop}
 
 -- The room with the records of some candidates after the first w records.
 abbrev filled : ℕ → List ℕ → List Candidate → List ℕ
@@ -57,13 +57,13 @@ ended : {a w : ℕ} {m : List ℕ} (s : State) → s .tally .left ≡ a → s .t
 ended {a} {w} {m} s e f g = record { left = omega (arith, e); written = omega (arith, f); room = g ∙ same-room w m }
 
 module _ (prime : Candidate → Bool) where
-  walk-runs : (cs : List Candidate) → ((c : Candidate) → Mem c cs → degree c ≤ maxListed) → (t : Tally) (m : List ℕ) → t .skip ≤ 0 → recordLength * t .written ≤ length m
+  walk-runs : (cs : List Candidate) → ((c : Candidate) → Mem c cs → degree c ≤ maxListed) → (t : Tally) (m : List ℕ) → recordLength * t .written ≤ length m
       → EndsAs (t .left) (t .written) m (passage prime cs (t .left) (length m - recordLength * t .written)) (walk prime cs (state t m))
   unfolding walk passage
-  walk-runs [] h t m z k = ended (state t m) refl refl refl
-  walk-runs (c ∷ cs) h t m z k = go (t .left) refl (prime c) refl (ltb (length m) (recordLength * t .written + recordLength)) refl
-      (walk-runs cs (λ d i. h d (inr i)) (passing t) m z k)
-      (walk-runs cs (λ d i. h d (inr i)) (writing t) (sets m (recordLength * t .written) (recordOf c)) z)
+  walk-runs [] h t m k = ended (state t m) refl refl refl
+  walk-runs (c ∷ cs) h t m k = go (t .left) refl (prime c) refl (ltb (length m) (recordLength * t .written + recordLength)) refl
+      (walk-runs cs (λ d i. h d (inr i)) (passing t) m k)
+      (walk-runs cs (λ d i. h d (inr i)) (writing t) (sets m (recordLength * t .written) (recordOf c)))
     where
       M : List ℕ
       M = sets m (recordLength * t .written) (recordOf c)
@@ -73,12 +73,12 @@ module _ (prime : Candidate → Bool) where
           → (recordLength * (t .written + 1) ≤ length M → EndsAs (t .left - 1) (t .written + 1) M (passage prime cs (t .left - 1) (length M - recordLength * (t .written + 1))) (walk prime cs (state (writing t) M)))
           → EndsAs a (t .written) m (passage prime (c ∷ cs) a (length m - recordLength * t .written)) (walk prime (c ∷ cs) (state t m))
       go zero e p q u v i j =
-          subst (EndsAs 0 (t .written) m nothing) (sym (walk-stop prime c cs (state t m) (state (stopping t) m) (pass-spent prime c t m z e) refl))
+          subst (EndsAs 0 (t .written) m nothing) (sym (walk-stop prime c cs (state t m) (state (stopping t) m) (pass-spent prime c t m e) refl))
           (ended (state (stopping t) m) e refl refl)
       go (suc a) e true q true v i j =
           let f = ltb-true (length m) (recordLength * t .written + recordLength) v in
           rw (q, lt-ltb (length m - recordLength * t .written) recordLength (omega arith))
-          (subst (EndsAs (suc a) (t .written) m nothing) (sym (walk-stop prime c cs (state t m) (state (stopping t) m) (pass-full prime c t m z (λ o. omega arith) q f) refl))
+          (subst (EndsAs (suc a) (t .written) m nothing) (sym (walk-stop prime c cs (state t m) (state (stopping t) m) (pass-full prime c t m (λ o. omega arith) q f) refl))
           (ended (state (stopping t) m) e refl refl))
       go (suc a) e true q false v i j =
           let f = ltb-false (length m) (recordLength * t .written + recordLength) v in
@@ -91,7 +91,7 @@ module _ (prime : Candidate → Bool) where
           (subst (λ (z : ℕ). EndsAs (t .left - 1) (t .written + 1) M (passage prime cs (t .left - 1) z) (walk prime cs (state (writing t) M))) y (j (omega arith))) in
           rw (q, le-ltb (length m - recordLength * t .written) recordLength (omega arith))
           (subst (EndsAs (suc a) (t .written) m (rule.writing c r))
-          (sym (walk-on prime c cs (state t m) (state (writing t) M) (pass-write prime c t m z (λ o. omega arith) q f) refl))
+          (sym (walk-on prime c cs (state t m) (state (writing t) M) (pass-write prime c t m (λ o. omega arith) q f) refl))
           (record { left = omega (arith, b .left); written = omega (arith, b .written); room = b .room ∙ more-room (t .written) m c (r .primes) (h c (inl refl)) f }))
       go (suc a) e false q u v i j =
           let r = passage prime cs a (length m - recordLength * t .written) in
@@ -100,20 +100,12 @@ module _ (prime : Candidate → Bool) where
           subst (λ (z : ℕ). EndsAs z (t .written) m (passage prime cs z (length m - recordLength * t .written)) (walk prime cs (state (passing t) m))) x i in
           rw q
           (subst (EndsAs (suc a) (t .written) m (rule.passing r))
-          (sym (walk-on prime c cs (state t m) (state (passing t) m) (pass-off prime c t m z (λ o. omega arith) q) refl))
+          (sym (walk-on prime c cs (state t m) (state (passing t) m) (pass-off prime c t m (λ o. omega arith) q) refl))
           (record { left = omega (arith, b .left); written = b .written; room = b .room }))
 
-  -- From the start: the first candidates are dropped.
-  pub walk-is : (cs : List Candidate) → ((c : Candidate) → Mem c cs → degree c ≤ maxListed) → (k a : ℕ) (m : List ℕ)
-      → EndsAs a 0 m (passage prime (drop k cs) a (length m)) (walk prime cs (state (starting k a) m))
-  unfolding walk passage
-  walk-is cs h zero a m =
+  -- From the start.
+  pub walk-is : (cs : List Candidate) → ((c : Candidate) → Mem c cs → degree c ≤ maxListed) → (a : ℕ) (m : List ℕ)
+      → EndsAs a 0 m (passage prime cs a (length m)) (walk prime cs (state (starting a) m))
+  walk-is cs h a m =
       let q : length m - recordLength * 0 ≡ length m = omega arith in
-      subst (λ (z : ℕ). EndsAs a 0 m (passage prime cs a z) (walk prime cs (state (starting 0 a) m))) q (walk-runs cs h (starting 0 a) m (omega arith) (omega arith))
-  walk-is [] h (suc k) a m = ended (state (starting (suc k) a) m) refl refl refl
-  walk-is (c ∷ cs) h (suc k) a m =
-      let q : suc k - 1 ≡ k = omega arith in
-      subst (EndsAs a 0 m (passage prime (drop k cs) a (length m)))
-      (ap (λ (z : ℕ). walk prime cs (state (starting z a) m)) (sym q)
-      ∙ sym (walk-on prime c cs (state (starting (suc k) a) m) (state (skipping (starting (suc k) a)) m) (pass-skip prime c (starting (suc k) a) m (omega arith)) refl))
-      (walk-is cs (λ d i. h d (inr i)) k a m)
+      subst (λ (z : ℕ). EndsAs a 0 m (passage prime cs a z) (walk prime cs (state (starting a) m))) q (walk-runs cs h (starting a) m (omega arith))

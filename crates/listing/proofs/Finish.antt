@@ -75,7 +75,7 @@ pub record Finished (n : ℕ) (on free : List ℕ) (place allowance : ℕ) (lent
 
 module _ (n : ℕ) (on free : List ℕ) (place allowance : ℕ) (room : List ℕ) (e : listingFault (callOf n on free place allowance room) ≡ 0)
     (start : Start) (s : StartsAt n place start) (onMask freeMask : ℕ) (a : MaskOf on onMask) (b : MaskOf free freeMask)
-    (u : State) (w : u ≡ walk (primeBy n onMask freeMask) (candidatesFrom n (start .degree)) (state (starting (start .skip) allowance) room)) where
+    (u : State) (w : u ≡ walk (primeBy n onMask freeMask) (drop (start .skip) (candidatesFrom n (start .degree))) (state (starting allowance) room)) where
   this : Call
   this = callOf n on free place allowance room
 
@@ -87,11 +87,12 @@ module _ (n : ℕ) (on free : List ℕ) (place allowance : ℕ) (room : List ℕ
   unfolding listing this candidates
   ends =
       subst (EndsAs allowance 0 room (listing this)) (sym w)
-      (subst (λ (f : Candidate → Bool). EndsAs allowance 0 room (passage f (drop place (candidates n)) allowance (length room)) (walk (primeBy n onMask freeMask) (candidatesFrom n (start .degree)) (state (starting (start .skip) allowance) room)))
+      (subst (λ (f : Candidate → Bool). EndsAs allowance 0 room (passage f (drop place (candidates n)) allowance (length room)) (walk (primeBy n onMask freeMask) (drop (start .skip) (candidatesFrom n (start .degree))) (state (starting allowance) room)))
       (masks-prime n on free onMask freeMask a b)
-      (subst (λ l. EndsAs allowance 0 room (passage (primeBy n onMask freeMask) l allowance (length room)) (walk (primeBy n onMask freeMask) (candidatesFrom n (start .degree)) (state (starting (start .skip) allowance) room)))
+      (subst (λ l. EndsAs allowance 0 room (passage (primeBy n onMask freeMask) l allowance (length room)) (walk (primeBy n onMask freeMask) (drop (start .skip) (candidatesFrom n (start .degree))) (state (starting allowance) room)))
       (sym (s .same))
-      (walk-is (primeBy n onMask freeMask) (candidatesFrom n (start .degree)) (λ d m. call-small d (from-more n (start .degree) n (s .short) d m)) (start .skip) allowance room)))
+      (walk-is (primeBy n onMask freeMask) (drop (start .skip) (candidatesFrom n (start .degree)))
+      (λ d m. call-small d (from-more n (start .degree) n (s .short) d (drop-mem (start .skip) (candidatesFrom n (start .degree)) d m))) allowance room)))
 
   rule : Listed (primeOf (this .table)) (drop place (candidates n)) allowance (length room) (listing this)
   unfolding this

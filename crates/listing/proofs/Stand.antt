@@ -1,6 +1,6 @@
 -- Where a walk over the table of bases stands, and each way through a turn of its loop as one law. Read next: Ends.
 use mathlib.Core.Path.{_≡_, refl, sym, ap, ap₂, _∙_, subst}
-use mathlib.Core.Bool.{Bool, true, false, cond}
+use mathlib.Core.Bool.{true, false}
 use mathlib.Core.List.{List, [], _∷_, _++_, map, flatMap, append-assoc, append-nil}
 use Prim.Native.Nat.{ℕ, zero, suc, _+_, _-_, _^_, _≤_, _<_}
 use native.Mathlib.Decide.{ℕ-discrete}
@@ -8,7 +8,7 @@ use native.Mathlib.Numerals.{add-one}
 use native.Mathlib.Omega.{arith}
 use lib.Pow.{pow-pos, pow-mono}
 use lib.ListN.{length, getD, drop, length-append, List·getD-append, drop-of-length-le}
-use lib.Seq.{drop-cons, slice-empty, getD-append-seam}
+use lib.Seq.{drop-nil, drop-cons, slice-empty, getD-append-seam}
 use Rattle.gf2.specs.Finite.{Mem, select}
 use Rattle.cubes.specs.Lists.{keep}
 use Rattle.cubes.specs.Cubes.{Candidate}
@@ -16,13 +16,14 @@ use Rattle.cubes.specs.Candidates.{points, candidatesAt, candidatesOf, candidat
 use Rattle.bases.specs.Entries.{entries}
 use Rattle.bases.specs.Bases.{start, stop, entriesOf, takesPoint}
 use Rattle.bases.proofs.Table.{entries-at}
+use Rattle.listing.specs.declared.Found.{Found}
 use Rattle.listing.specs.declared.Tally.{Tally}
 use Rattle.masks.specs.Points.{primeBy}
 use Rattle.masks.specs.Entry.{candidateAt, EntryAt}
 use Rattle.masks.proofs.Bounds.{bounds, entry-mem}
-use Rattle.listing.specs.Places.{takenFrom, FirstTaken}
+use Rattle.listing.specs.Places.{placed, FirstTaken}
 use Rattle.listing.specs.Walk.{State, state, pass, walk}
-use Rattle.listing.proofs.Rows.{taken-cons}
+use Rattle.listing.proofs.Rows.{placed-taken}
 use Rattle.listing.proofs.Steps.{Kept, pass-kept, walk-on, walk-stop}
 
 -- ---- the points
@@ -53,7 +54,7 @@ lower n (suc d) = candidatesFrom n d
 
 -- The candidates from the entry at place i, with point p and degree d, on.
 unfoldable pub ahead : ℕ → ℕ → ℕ → ℕ → List Candidate
-ahead n d p i = map (candidateAt d p) (takenFrom n d p i) ++ (flatMap (candidatesAt n d) (drop (suc p) (points n)) ++ lower n d)
+ahead n d p i = placed n d p i (flatMap (candidatesAt n d) (drop (suc p) (points n)) ++ lower n d)
 
 ahead-from : (n d p : ℕ) → n ≤ 6 → d ≤ 6 → p < 2 ^ n → flatMap (candidatesAt n d) (drop p (points n)) ++ lower n d ≡ ahead n d p (start d)
 unfolding ahead flatMap entriesOf
@@ -82,16 +83,13 @@ unfolding flatMap
 ahead-last n d p h =
     ahead-done n d p ∙ ap (λ l. flatMap (candidatesAt n d) l ++ lower n d) (drop-of-length-le (points n) {i = suc p} (omega (arith, points-length (2 ^ n))))
 
-ahead-same : (n d p i at : ℕ) → FirstTaken n d p i at → ahead n d p i ≡ ahead n d p at
+ahead-same : (n d p i skip : ℕ) (r : Found) → FirstTaken n d p i skip r → drop skip (ahead n d p i) ≡ drop (r .skip) (ahead n d p (r .at))
 unfolding ahead
-ahead-same n d p i at f =
-    ap (λ l. map (candidateAt d p) l ++ (flatMap (candidatesAt n d) (drop (suc p) (points n)) ++ lower n d)) (f .same)
+ahead-same n d p i skip r f = f .same (flatMap (candidatesAt n d) (drop (suc p) (points n)) ++ lower n d)
 
 ahead-cons : (n d p i : ℕ) → d ≤ 6 → i < stop d → takesPoint n p (getD entries i 0) ≡ true → ahead n d p i ≡ candidateAt d p (getD entries i 0) ∷ ahead n d p (i + 1)
 unfolding ahead
-ahead-cons n d p i hd h t =
-    ap (λ l. map (candidateAt d p) l ++ (flatMap (candidatesAt n d) (drop (suc p) (points n)) ++ lower n d))
-    (taken-cons n d p i hd h ∙ ap (λ (b : Bool). cond b (getD entries i 0 ∷ takenFrom n d p (i + 1)) (takenFrom n d p (i + 1))) t)
+ahead-cons n d p i hd h t = placed-taken n d p i hd h (flatMap (candidatesAt n d) (drop (suc p) (points n)) ++ lower n d) t
 
 lower-ahead : (n : ℕ) → n ≤ 6 → (d : ℕ) → d ≤ 6 → 0 < d → lower n d ≡ ahead n (d - 1) 0 (start (d - 1))
 unfolding lower
@@ -100,9 +98,9 @@ lower-ahead n six (suc d) hd h = let q : d ≡ suc d - 1 = omega arith in ahead-
 
 -- ---- where the loop stands
 
--- The walk from here ends as the whole walk does.
-pub record Stand (n on free long : ℕ) (goal : State) (d p i : ℕ) (s : State) : Type 0 where
-  pub same : walk (primeBy n on free) (ahead n d p i) s ≡ goal
+-- The walk from here, without the candidates that are still to be skipped, ends as the whole walk does.
+pub record Stand (n on free long : ℕ) (goal : State) (skip d p i : ℕ) (s : State) : Type 0 where
+  pub same : walk (primeBy n on free) (drop skip (ahead n d p i)) s ≡ goal
   pub few : n ≤ 6
   pub short : d ≤ n
   pub point : p < 2 ^ n
@@ -110,10 +108,10 @@ pub record Stand (n on free long : ℕ) (goal : State) (d p i : ℕ) (s : State)
   pub upto : i ≤ stop d
   pub kept : Kept long s
 
-pub stand-start : (n on free degree i : ℕ) (t : Tally) (room : List ℕ) → n ≤ 6 → degree ≤ n → i ≡ start degree → t .written ≡ 0
-    → Stand n on free (length room) (walk (primeBy n on free) (candidatesFrom n degree) (state t room)) degree 0 i (state t room)
-stand-start n on free degree i t room h k e w = record {
-  same = ap (λ l. walk (primeBy n on free) l (state t room)) (sym (ahead-degree n degree h (omega arith) ∙ ap (ahead n degree 0) (sym e)));
+pub stand-start : (n on free degree skip i : ℕ) (t : Tally) (room : List ℕ) → n ≤ 6 → degree ≤ n → i ≡ start degree → t .written ≡ 0
+    → Stand n on free (length room) (walk (primeBy n on free) (drop skip (candidatesFrom n degree)) (state t room)) skip degree 0 i (state t room)
+stand-start n on free degree skip i t room h k e w = record {
+  same = ap (λ l. walk (primeBy n on free) (drop skip l) (state t room)) (sym (ahead-degree n degree h (omega arith) ∙ ap (ahead n degree 0) (sym e)));
   few = h;
   short = k;
   point = pow-pos n;
@@ -122,7 +120,7 @@ stand-start n on free degree i t room h k e w = record {
   kept = record { keeps = refl; wrote = omega arith };
 }
 
-module _ {n on free long : ℕ} {goal : State} {d p i : ℕ} {s : State} (t : Stand n on free long goal d p i s) where
+module _ {n on free long : ℕ} {goal : State} {skip d p i : ℕ} {s : State} (t : Stand n on free long goal skip d p i s) where
   pub six : d ≤ 6
   six = omega (arith, t .few, t .short)
 
@@ -132,31 +130,34 @@ module _ {n on free long : ℕ} {goal : State} {d p i : ℕ} {s : State} (t : St
   pub small : p < 64
   small = omega (arith, t .point, pow-mono (t .few))
 
-  module _ {at : ℕ} (f : FirstTaken n d p i at) where
-    here : walk (primeBy n on free) (ahead n d p at) s ≡ goal
-    here = ap (λ l. walk (primeBy n on free) l s) (sym (ahead-same n d p i at f)) ∙ t .same
+  module _ {r : Found} (f : FirstTaken n d p i skip r) where
+    here : walk (primeBy n on free) (drop (r .skip) (ahead n d p (r .at))) s ≡ goal
+    here = ap (λ l. walk (primeBy n on free) l s) (sym (ahead-same n d p i skip r f)) ∙ t .same
 
-    -- At an entry that is taken.
-    module _ {e : ℕ} (h : at < stop d) (q : e ≡ getD entries at 0) where
+    -- At an entry that is taken: nothing is left to skip.
+    module _ {e : ℕ} (h : r .at < stop d) (q : e ≡ getD entries (r .at) 0) where
       pub entry-stands : EntryAt n d p e
       entry-stands = record {
         few = t .few;
         short = t .short;
         point = t .point;
-        listed = subst (λ (z : ℕ). Mem z (entriesOf d)) (sym q) (entry-mem d at six (omega (arith, t .from, f .low)) h);
-        taken = subst (λ (z : ℕ). takesPoint n p z ≡ true) (sym q) (f .taken h);
+        listed = subst (λ (z : ℕ). Mem z (entriesOf d)) (sym q) (entry-mem d (r .at) six (omega (arith, t .from, f .low)) h);
+        taken = subst (λ (z : ℕ). takesPoint n p z ≡ true) (sym q) (f .taken h .1);
       }
 
-      front : walk (primeBy n on free) (candidateAt d p e ∷ ahead n d p (at + 1)) s ≡ goal
-      front = ap (λ l. walk (primeBy n on free) l s) (sym (ahead-cons n d p at six h (f .taken h) ∙ ap (λ (z : ℕ). candidateAt d p z ∷ ahead n d p (at + 1)) (sym q))) ∙ here
+      front : walk (primeBy n on free) (candidateAt d p e ∷ ahead n d p (r .at + 1)) s ≡ goal
+      front =
+          ap (λ l. walk (primeBy n on free) l s)
+          (sym (ap (λ (k : ℕ). drop k (ahead n d p (r .at))) (f .taken h .0) ∙ ahead-cons n d p (r .at) six h (f .taken h .1) ∙ ap (λ (z : ℕ). candidateAt d p z ∷ ahead n d p (r .at + 1)) (sym q))) ∙ here
 
-      module _ {u : State} (r : u ≡ pass (primeBy n on free) (candidateAt d p e) s) where
+      module _ {u : State} (v : u ≡ pass (primeBy n on free) (candidateAt d p e) s) where
         pub passed-kept : Kept long u
-        passed-kept = subst (Kept long) (sym r) (pass-kept (primeBy n on free) (candidateAt d p e) long s (t .kept))
+        passed-kept = subst (Kept long) (sym v) (pass-kept (primeBy n on free) (candidateAt d p e) long s (t .kept))
 
-        pub to-entry : u .tally .stopped ≡ false → Stand n on free long goal d p (at + 1) u
+        pub to-entry : u .tally .stopped ≡ false → Stand n on free long goal (r .skip) d p (r .at + 1) u
         to-entry z = record {
-          same = sym (walk-on (primeBy n on free) (candidateAt d p e) (ahead n d p (at + 1)) s u r z) ∙ front;
+          same = ap (λ (k : ℕ). walk (primeBy n on free) (drop k (ahead n d p (r .at + 1))) u) (f .taken h .0)
+              ∙ sym (walk-on (primeBy n on free) (candidateAt d p e) (ahead n d p (r .at + 1)) s u v z) ∙ front;
           few = t .few;
           short = t .short;
           point = t .point;
@@ -166,17 +167,17 @@ module _ {n on free long : ℕ} {goal : State} {d p i : ℕ} {s : State} (t : St
         }
 
         pub at-stop : u .tally .stopped ≡ true → u ≡ goal
-        at-stop z = sym (walk-stop (primeBy n on free) (candidateAt d p e) (ahead n d p (at + 1)) s u r z) ∙ front
+        at-stop z = sym (walk-stop (primeBy n on free) (candidateAt d p e) (ahead n d p (r .at + 1)) s u v z) ∙ front
 
     -- At the end of the entries.
-    module _ (h : stop d ≤ at) where
-      ended : at ≡ stop d
+    module _ (h : stop d ≤ r .at) where
+      ended : r .at ≡ stop d
       ended = omega (arith, f .high)
 
-      pub to-point : p + 1 < 2 ^ n → (j : ℕ) → j ≡ start d → Stand n on free long goal d (p + 1) j s
-      to-point l j r = record {
-        same = ap (λ l. walk (primeBy n on free) l s)
-            (ap₂ (λ (q k : ℕ). ahead n d q k) (add-one p) r
+      pub to-point : p + 1 < 2 ^ n → (j : ℕ) → j ≡ start d → Stand n on free long goal (r .skip) d (p + 1) j s
+      to-point l j e = record {
+        same = ap (λ l. walk (primeBy n on free) (drop (r .skip) l) s)
+            (ap₂ (λ (q k : ℕ). ahead n d q k) (add-one p) e
             ∙ sym (ahead-from n d (suc p) (t .few) six (omega arith)) ∙ sym (ahead-done n d p) ∙ ap (ahead n d p) (sym ended)) ∙ here;
         few = t .few;
         short = t .short;
@@ -186,16 +187,17 @@ module _ {n on free long : ℕ} {goal : State} {d p i : ℕ} {s : State} (t : St
         kept = t .kept;
       }
 
-      beyond : 2 ^ n ≤ p + 1 → walk (primeBy n on free) (lower n d) s ≡ goal
-      beyond l = ap (λ l. walk (primeBy n on free) l s) (sym (ahead-last n d p (omega arith)) ∙ ap (ahead n d p) (sym ended)) ∙ here
+      beyond : 2 ^ n ≤ p + 1 → walk (primeBy n on free) (drop (r .skip) (lower n d)) s ≡ goal
+      beyond l = ap (λ l. walk (primeBy n on free) (drop (r .skip) l) s) (sym (ahead-last n d p (omega arith)) ∙ ap (ahead n d p) (sym ended)) ∙ here
 
       pub at-end : 2 ^ n ≤ p + 1 → d ≡ 0 → s ≡ goal
       unfolding lower walk
-      at-end l z = ap (λ (k : ℕ). walk (primeBy n on free) (lower n k) s) (sym z) ∙ beyond l
+      at-end l z =
+          ap (λ l. walk (primeBy n on free) l s) (sym (drop-nil (r .skip)) ∙ ap (λ (k : ℕ). drop (r .skip) (lower n k)) (sym z)) ∙ beyond l
 
-      pub to-degree : 2 ^ n ≤ p + 1 → 0 < d → (j : ℕ) → j ≡ start (d - 1) → Stand n on free long goal (d - 1) 0 j s
-      to-degree l z j r = record {
-        same = ap (λ l. walk (primeBy n on free) l s) (ap (ahead n (d - 1) 0) r ∙ sym (lower-ahead n (t .few) d six z)) ∙ beyond l;
+      pub to-degree : 2 ^ n ≤ p + 1 → 0 < d → (j : ℕ) → j ≡ start (d - 1) → Stand n on free long goal (r .skip) (d - 1) 0 j s
+      to-degree l z j e = record {
+        same = ap (λ l. walk (primeBy n on free) (drop (r .skip) l) s) (ap (ahead n (d - 1) 0) e ∙ sym (lower-ahead n (t .few) d six z)) ∙ beyond l;
         few = t .few;
         short = omega (arith, t .short);
         point = pow-pos n;

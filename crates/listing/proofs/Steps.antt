@@ -12,31 +12,26 @@ use borrow.Author.Tests.{lt-ltb, le-ltb, ltb-false, eq-eqb, ne-eqb}
 use Rattle.cubes.specs.Cubes.{Candidate}
 use Rattle.cubes.specs.Records.{recordLength, recordOf}
 use Rattle.listing.specs.declared.Tally.{Tally}
-use Rattle.listing.specs.Walk.{skipping, passing, writing, stopping, State, state, pass, walk}
+use Rattle.listing.specs.Walk.{passing, writing, stopping, State, state, pass, walk}
 
 module _ (prime : Candidate → Bool) (c : Candidate) (t : Tally) (m : List ℕ) where
-  pub pass-skip : 0 < t .skip → state (skipping t) m ≡ pass prime c (state t m)
+  pub pass-spent : t .left ≡ 0 → state (stopping t) m ≡ pass prime c (state t m)
   unfolding pass
-  pass-skip h = rw (lt-ltb 0 (t .skip) h)
+  pass-spent e = rw (eq-eqb (t .left) 0 e)
 
-  module _ (h : t .skip ≤ 0) where
-    pub pass-spent : t .left ≡ 0 → state (stopping t) m ≡ pass prime c (state t m)
+  module _ (l : t .left ≢ 0) where
+    pub pass-off : prime c ≡ false → state (passing t) m ≡ pass prime c (state t m)
     unfolding pass
-    pass-spent e = rw (le-ltb 0 (t .skip) h, eq-eqb (t .left) 0 e)
+    pass-off e = rw (ne-eqb (t .left) 0 l, e)
 
-    module _ (l : t .left ≢ 0) where
-      pub pass-off : prime c ≡ false → state (passing t) m ≡ pass prime c (state t m)
-      unfolding pass
-      pass-off e = rw (le-ltb 0 (t .skip) h, ne-eqb (t .left) 0 l, e)
+    pub pass-full : prime c ≡ true → length m < recordLength * t .written + recordLength → state (stopping t) m ≡ pass prime c (state t m)
+    unfolding pass
+    pass-full e f = rw (ne-eqb (t .left) 0 l, e, lt-ltb (length m) (recordLength * t .written + recordLength) f)
 
-      pub pass-full : prime c ≡ true → length m < recordLength * t .written + recordLength → state (stopping t) m ≡ pass prime c (state t m)
-      unfolding pass
-      pass-full e f = rw (le-ltb 0 (t .skip) h, ne-eqb (t .left) 0 l, e, lt-ltb (length m) (recordLength * t .written + recordLength) f)
-
-      pub pass-write : prime c ≡ true → recordLength * t .written + recordLength ≤ length m
-          → state (writing t) (sets m (recordLength * t .written) (recordOf c)) ≡ pass prime c (state t m)
-      unfolding pass
-      pass-write e f = rw (le-ltb 0 (t .skip) h, ne-eqb (t .left) 0 l, e, le-ltb (length m) (recordLength * t .written + recordLength) f)
+    pub pass-write : prime c ≡ true → recordLength * t .written + recordLength ≤ length m
+        → state (writing t) (sets m (recordLength * t .written) (recordOf c)) ≡ pass prime c (state t m)
+    unfolding pass
+    pass-write e f = rw (ne-eqb (t .left) 0 l, e, le-ltb (length m) (recordLength * t .written + recordLength) f)
 
 -- The room keeps its length, and what is written fits it.
 pub record Kept (long : ℕ) (s : State) : Type 0 where
@@ -45,19 +40,17 @@ pub record Kept (long : ℕ) (s : State) : Type 0 where
 
 pub pass-kept : (prime : Candidate → Bool) (c : Candidate) (long : ℕ) (s : State) → Kept long s → Kept long (pass prime c s)
 unfolding pass
-pass-kept prime c long s k = go (ltb 0 (s .tally .skip)) (eqb (s .tally .left) 0) (prime c) (ltb (length (s .room)) (recordLength * s .tally .written + recordLength)) refl
+pass-kept prime c long s k = go (eqb (s .tally .left) 0) (prime c) (ltb (length (s .room)) (recordLength * s .tally .written + recordLength)) refl
   where
-    go : (a b e f : Bool) → ltb (length (s .room)) (recordLength * s .tally .written + recordLength) ≡ f
-        → Kept long (cond a (state (skipping (s .tally)) (s .room))
-        (cond b (state (stopping (s .tally)) (s .room))
+    go : (b e f : Bool) → ltb (length (s .room)) (recordLength * s .tally .written + recordLength) ≡ f
+        → Kept long (cond b (state (stopping (s .tally)) (s .room))
         (cond e
         (cond f (state (stopping (s .tally)) (s .room)) (state (writing (s .tally)) (sets (s .room) (recordLength * s .tally .written) (recordOf c))))
-        (state (passing (s .tally)) (s .room)))))
-    go true b e f q = record { keeps = k .keeps; wrote = k .wrote }
-    go false true e f q = record { keeps = k .keeps; wrote = k .wrote }
-    go false false false f q = record { keeps = k .keeps; wrote = k .wrote }
-    go false false true true q = record { keeps = k .keeps; wrote = k .wrote }
-    go false false true false q = record {
+        (state (passing (s .tally)) (s .room))))
+    go true e f q = record { keeps = k .keeps; wrote = k .wrote }
+    go false false f q = record { keeps = k .keeps; wrote = k .wrote }
+    go false true true q = record { keeps = k .keeps; wrote = k .wrote }
+    go false true false q = record {
       keeps = length-sets (s .room) (recordLength * s .tally .written) (recordOf c) ∙ k .keeps;
       wrote = omega (arith, k .keeps, ltb-false (length (s .room)) (recordLength * s .tally .written + recordLength) q);
     }

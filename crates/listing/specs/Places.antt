@@ -1,26 +1,34 @@
 -- Places in the table of bases and in the list of candidates: the entries from a place on, and where a listing starts. Read next: Walk.
 use mathlib.Core.Path.{_≡_}
 use mathlib.Core.Bool.{true}
-use mathlib.Core.List.{List}
+use mathlib.Core.List.{List, _++_, map}
 use Prim.Native.Nat.{ℕ, _≤_, _<_}
 use lib.ListN.{getD, drop}
 use lib.Seq.{slice}
 use Rattle.cubes.specs.Lists.{keep}
+use Rattle.cubes.specs.Cubes.{Candidate}
 use Rattle.cubes.specs.Candidates.{candidatesFrom, candidates}
 use Rattle.bases.specs.Entries.{entries}
 use Rattle.bases.specs.Bases.{stop, takesPoint}
+use Rattle.masks.specs.Entry.{candidateAt}
+use Rattle.listing.specs.declared.Found.{Found}
 use Rattle.listing.specs.declared.Start.{Start}
 
 -- The entries of d vectors from place i on that are taken with the point p.
 abbrev pub takenFrom : ℕ → ℕ → ℕ → ℕ → List ℕ
 takenFrom n d p i = keep (takesPoint n p) (slice i (stop d) entries)
 
--- The place r is the first from i on whose entry is taken with p, or the end of the entries of d vectors.
-pub record FirstTaken (n d p i r : ℕ) : Type 0 where
-  pub low : i ≤ r
-  pub high : r ≤ stop d
-  pub same : takenFrom n d p i ≡ takenFrom n d p r
-  pub taken : r < stop d → takesPoint n p (getD entries r 0) ≡ true
+-- Their candidates, with some others behind them.
+abbrev pub placed : ℕ → ℕ → ℕ → ℕ → List Candidate → List Candidate
+placed n d p i rest = map (candidateAt d p) (takenFrom n d p i) ++ rest
+
+-- The place found is the first from i on whose entry is taken with p, after so many such entries that are skipped, or the end of the entries
+-- of d vectors: whatever stands behind those entries, what is left without the first few is the same.
+pub record FirstTaken (n d p i skip : ℕ) (r : Found) : Type 0 where
+  pub low : i ≤ r .at
+  pub high : r .at ≤ stop d
+  pub same : (rest : List Candidate) → drop skip (placed n d p i rest) ≡ drop (r .skip) (placed n d p (r .at) rest)
+  pub taken : r .at < stop d → (r .skip ≡ 0) × (takesPoint n p (getD entries (r .at) 0) ≡ true)
 
 -- Where a listing starts: the candidates from the place on are those of a degree and less, without the first few.
 pub record StartsAt (n place : ℕ) (s : Start) : Type 0 where

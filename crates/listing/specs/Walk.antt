@@ -9,22 +9,19 @@ use Rattle.cubes.specs.Cubes.{Candidate}
 use Rattle.cubes.specs.Records.{recordLength, recordOf}
 use Rattle.listing.specs.declared.Tally.{Tally}
 
--- The tally at the start of a walk: candidates to skip, and the allowance.
-abbrev pub starting : ℕ → ℕ → Tally
-starting skip allowance = record { skip = skip; left = allowance; written = 0; stopped = false }
+-- The tally at the start of a walk: the whole allowance is left.
+abbrev pub starting : ℕ → Tally
+starting allowance = record { left = allowance; written = 0; stopped = false }
 
--- The tally after a candidate that is skipped, passed, or passed and written; and of a walk that stops.
-abbrev pub skipping : Tally → Tally
-skipping t = record { skip = t .skip - 1; left = t .left; written = t .written; stopped = false }
-
+-- The tally after a candidate that is passed, or passed and written; and of a walk that stops.
 abbrev pub passing : Tally → Tally
-passing t = record { skip = t .skip; left = t .left - 1; written = t .written; stopped = false }
+passing t = record { left = t .left - 1; written = t .written; stopped = false }
 
 abbrev pub writing : Tally → Tally
-writing t = record { skip = t .skip; left = t .left - 1; written = t .written + 1; stopped = false }
+writing t = record { left = t .left - 1; written = t .written + 1; stopped = false }
 
 abbrev pub stopping : Tally → Tally
-stopping t = record { skip = t .skip; left = t .left; written = t .written; stopped = true }
+stopping t = record { left = t .left; written = t .written; stopped = true }
 
 -- A walk so far: its tally, and the room.
 pub record State : Type 0 where
@@ -34,16 +31,15 @@ pub record State : Type 0 where
 abbrev pub state : Tally → List ℕ → State
 state t room = record { tally = t; room = room }
 
--- One candidate: skipped if there are candidates to skip; else the walk stops if the allowance is spent, or before a prime that no longer fits,
+-- One candidate: the walk stops if the allowance is spent, or before a prime that no longer fits,
 -- and otherwise passes it, and writes the record of a prime after the others.
 unfoldable pub pass : (Candidate → Bool) → Candidate → State → State
 pass prime c s =
-    cond (ltb 0 (s .tally .skip)) (state (skipping (s .tally)) (s .room))
-    (cond (eqb (s .tally .left) 0) (state (stopping (s .tally)) (s .room))
+    cond (eqb (s .tally .left) 0) (state (stopping (s .tally)) (s .room))
     (cond (prime c)
     (cond (ltb (length (s .room)) (recordLength * s .tally .written + recordLength)) (state (stopping (s .tally)) (s .room))
     (state (writing (s .tally)) (sets (s .room) (recordLength * s .tally .written) (recordOf c))))
-    (state (passing (s .tally)) (s .room))))
+    (state (passing (s .tally)) (s .room)))
 
 -- The candidates one after the other, until the walk stops. That it ends as the listing rule says is `walk-is`.
 unfoldable pub walk : (Candidate → Bool) → List Candidate → State → State

@@ -4,7 +4,7 @@ ghost use mathlib.Core.Path.{_≡_};
 ghost use mathlib.Core.Bool.{false};
 ghost use mathlib.Core.List.{[], _∷_};
 ghost use Prim.Native.Nat.{_+_, _*_, _^_, _≤_, _<_};
-ghost use lib.ListN.{length};
+ghost use lib.ListN.{length, drop};
 ghost use lib.Seq.{sets};
 ghost use Rattle.cubes.specs.Candidates.{candidatesOf, candidatesFrom, candidateCount};
 ghost use Rattle.cubes.specs.Records.{maxListed, recordLength};
@@ -14,7 +14,7 @@ ghost use Rattle.bases.specs.Bases.{stop, vectorsOf};
 ghost use Rattle.masks.specs.Points.{OfPoints, primeBy};
 ghost use Rattle.masks.specs.Entry.{candidateAt, EntryAt};
 ghost use Rattle.listing.specs.Places.{FirstTaken, StartsAt};
-ghost use Rattle.listing.specs.Walk.{starting, skipping, passing, writing, stopping, state, pass, walk};
+ghost use Rattle.listing.specs.Walk.{starting, passing, writing, stopping, state, pass, walk};
 ghost use Rattle.listing.specs.Answers.{callOf, numbersOf};
 use masks::MAX_LISTED;
 use table::PLACE_FAULT;
@@ -25,23 +25,35 @@ pub const RECORD_LENGTH: usize = 8;
 
 // ---- the entries of the table of bases
 
-// The first place from i on whose entry is taken with p, or the end of the entries of d vectors.
-fn first_taken(table: &[u64; 2825], n: usize, d: usize, p: u64, i: usize) -> usize
+// A place in the table of bases, and how many candidates are still to be skipped from there on.
+pub struct Found {
+    pub at: usize,
+    pub skip: u64,
+}
+
+// The first place from i on whose entry is taken with p, after so many such entries that are skipped, or the end of the entries of d vectors.
+fn first_taken(table: &[u64; 2825], n: usize, d: usize, p: u64, i: usize, skip: u64) -> Found
     requires { ⌜ now table ≡ entries ⌝ }
     requires { ⌜ n ≤ maxListed ⌝ }
     requires { ⌜ d ≤ maxListed ⌝ }
     requires { ⌜ i ≤ stop d ⌝ }
-    ensures { λ r. ⌜ FirstTaken n d p i r ⌝ }
+    ensures { λ r. ⌜ FirstTaken n d p i skip r ⌝ }
 {
     let end = masks::stop_of(d);
     let mut at = i;
+    let mut left = skip;
     while at < end {
-        if masks::taken(n, p, table[at]) {
-            return at;
+        if !masks::taken(n, p, table[at]) {
+            at += 1;
+            continue;
         }
+        if left == 0 {
+            return Found { at, skip: 0 };
+        }
+        left -= 1;
         at += 1;
     }
-    at
+    Found { at, skip: left }
 }
 
 // ---- one candidate
@@ -64,33 +76,19 @@ fn put(room: &mut [u8], k: usize, d: usize, p: u64, entry: u64)
     room[at + 7] = (entry / 256 / 256 / 256 / 256 / 256 % 256) as u8;
 }
 
-// What a walk has still to skip, what is left of its allowance, how many records it has written, and whether it has stopped.
+// What is left of a walk's allowance, how many records it has written, and whether it has stopped.
 pub struct Tally {
-    pub skip: u64,
     pub left: u64,
     pub written: usize,
     pub stopped: bool,
 }
 
 impl Tally {
-    fn skipping(self) -> Tally
-        requires { ⌜ 0 < self .skip ⌝ }
-        ensures { λ r. ⌜ r ≡ skipping self ⌝ }
-    {
-        Tally {
-            skip: self.skip - 1,
-            left: self.left,
-            written: self.written,
-            stopped: false,
-        }
-    }
-
     fn passing(self) -> Tally
         requires { ⌜ 0 < self .left ⌝ }
         ensures { λ r. ⌜ r ≡ passing self ⌝ }
     {
         Tally {
-            skip: self.skip,
             left: self.left - 1,
             written: self.written,
             stopped: false,
@@ -103,7 +101,6 @@ impl Tally {
         ensures { λ r. ⌜ r ≡ writing self ⌝ }
     {
         Tally {
-            skip: self.skip,
             left: self.left - 1,
             written: self.written + 1,
             stopped: false,
@@ -114,7 +111,6 @@ impl Tally {
         ensures { λ r. ⌜ r ≡ stopping self ⌝ }
     {
         Tally {
-            skip: self.skip,
             left: self.left,
             written: self.written,
             stopped: true,
@@ -122,7 +118,7 @@ impl Tally {
     }
 }
 
-// One candidate of a walk: skipped, passed, passed and written, or the walk stops before it.
+// One candidate of a walk: passed, passed and written, or the walk stops before it.
 fn pass(
     on: u64,
     free: u64,
@@ -139,9 +135,6 @@ fn pass(
     requires { ⌜ recordLength * tally .written ≤ length (now room) ⌝ }
     ensures { λ r. ⌜ state r (now (room .exit)) ≡ pass (primeBy n on free) (candidateAt d p entry) (state tally (now (room .entry))) ⌝ }
 {
-    if tally.skip > 0 {
-        return tally.skipping();
-    }
     if tally.left == 0 {
         return tally.stopping();
     }
@@ -158,13 +151,13 @@ fn pass(
 
 // ---- the walk
 
-// The walk over the candidates of a degree and less, the first few skipped.
+// The walk over the candidates of a degree and less, without the first few.
 fn walk(
     on: u64,
     free: u64,
     n: usize,
     degree: usize,
-    skip: u64,
+    mut skip: u64,
     allowance: u64,
     room: &mut [u8],
 ) -> Tally
@@ -172,11 +165,10 @@ fn walk(
     requires { ⌜ OfPoints n free ⌝ }
     requires { ⌜ n ≤ maxListed ⌝ }
     requires { ⌜ degree ≤ n ⌝ }
-    ensures { λ r. ⌜ state r (now (room .exit)) ≡ walk (primeBy n on free) (candidatesFrom n degree) (state (starting skip allowance) (now (room .entry))) ⌝ }
+    ensures { λ r. ⌜ state r (now (room .exit)) ≡ walk (primeBy n on free) (drop skip (candidatesFrom n degree)) (state (starting allowance) (now (room .entry))) ⌝ }
 {
     let table = bases::entries::table();
     let mut tally = Tally {
-        skip,
         left: allowance,
         written: 0,
         stopped: false,
@@ -185,7 +177,9 @@ fn walk(
     let mut p: u64 = 0;
     let mut i = masks::start_of(d);
     loop {
-        let at = first_taken(&table, n, d, p, i);
+        let found = first_taken(&table, n, d, p, i, skip);
+        skip = found.skip;
+        let at = found.at;
         if at < masks::stop_of(d) {
             let entry = table[at];
             tally = pass(on, free, n, d, p, entry, tally, &mut *room);

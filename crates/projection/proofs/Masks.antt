@@ -73,6 +73,10 @@ project-all q h (suc n) w =
     project-kept q n w (h n)
     ∙ rw (places-all q h n, bit-is n w, project-all q h n w, digit (w / 2 ^ n % 2) (2 ^ n) (omega arith)) (sym (rw (add-comm 1 n, add-one n) at (mod-pow-add w 1 n)))
 
+-- A point of n variables is projected to itself.
+pub project-whole : (n w : ℕ) → w < 2 ^ n → project (placesClear n 0) w ≡ w
+project-whole n w h = project-all (λ k. not (bit k 0)) (λ k. ap not (bit-zero k)) n w ∙ mod-eq-of-lt h
+
 map-fixed : (g : ℕ → ℕ) (l : List ℕ) → ((x : ℕ) → Mem x l → g x ≡ x) → map g l ≡ l
 map-fixed g [] h = refl
 map-fixed g (x ∷ l) h = ap₂ _∷_ (h x (inl refl)) (map-fixed g l (λ y m. h y (inr m)))
@@ -83,4 +87,4 @@ unfolding kept isKept
 kept-all n f =
     ap (map (project (placesClear n 0))) (select-ext (isKept 0 f) f (2 ^ n) (λ w h. and-true (f w)))
     ∙ map-fixed (project (placesClear n 0)) (select f (2 ^ n))
-    (λ w m. project-all (λ k. not (bit k 0)) (λ k. ap not (bit-zero k)) n w ∙ mod-eq-of-lt (select-mem f (2 ^ n) w m .0))
+    (λ w m. project-whole n w (select-mem f (2 ^ n) w m .0))

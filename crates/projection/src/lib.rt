@@ -43,11 +43,15 @@ pub fn project(mask: u16, n: usize, w: u16) -> u16
     found
 }
 
-// The same at the places below n that are clear in the mask.
+// The same at the places below n that are clear in the mask. Where all are, that is the point itself, with no walk over its bits.
 fn project_clear(mask: u16, n: usize, w: u16) -> u16
     requires { ⌜ n ≤ maxVariables ⌝ }
+    requires { ⌜ w < 2 ^ n ⌝ }
     ensures { λ r. ⌜ r ≡ project (placesClear n mask) w ⌝ }
 {
+    if mask == 0 {
+        return w;
+    }
     let all = table::point_count(n) - 1;
     project(mask ^ all, n, w)
 }
@@ -137,7 +141,7 @@ fn write_point(
     room: &mut [u16],
 ) -> usize
     requires { ⌜ n ≤ maxVariables ⌝ }
-    requires { ⌜ w < 2 ^ maxVariables ⌝ }
+    requires { ⌜ w < 2 ^ n ⌝ }
     requires { ⌜ (isKept leads (flagged (now flags)) w ≡ true → count < length (now room)) ⌝ }
     ensures { λ r. ⌜ r ≡ cond (isKept leads (flagged (now (flags .entry))) w) (count + 1) count ⌝ }
     ensures { λ r. ⌜ now (room .exit) ≡ cond (isKept leads (flagged (now (flags .entry))) w) (set (now (room .entry)) count (project (placesClear n leads) w)) (now (room .entry)) ⌝ }

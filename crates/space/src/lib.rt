@@ -27,14 +27,15 @@ pub fn first_witness(flags: &[bool; MAX_POINTS], n: usize, from: u16, to: u16) -
     requires { ⌜ to ≤ 2 ^ n ⌝ }
     ensures { λ r. ⌜ Answers (flagged (now (flags .entry))) (2 ^ n) from to r ⌝ }
 {
-    let count = table::point_count(n);
+    let count = table::flag_place(table::point_count(n));
     let mut found = Witness::None;
     let mut a = from;
     'search: while a < to {
-        let mut p: u16 = 0;
+        let vector = table::flag_place(a);
+        let mut p = 0;
         while p < count {
-            if flags[(p ^ a) as usize] != flags[p as usize] {
-                found = Witness::At(a, p);
+            if flags[p ^ vector] != flags[p] {
+                found = Witness::At(a, p as u16);
                 break 'search;
             }
             p += 1;

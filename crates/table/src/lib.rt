@@ -30,12 +30,12 @@ pub const PLACE_FAULT: u8 = 9;
 // The number of points of the largest number of variables, as `maxPoints` in specs/.
 pub const MAX_POINTS: usize = 1 << MAX_VARIABLES;
 
-// The number of points of n variables.
+// The number of points of n variables. Not `1 << n`: from that the compiler makes a test `p < count` in a loop a shift in every turn.
 pub fn point_count(n: usize) -> u16
     requires { ⌜ n ≤ maxVariables ⌝ }
     ensures { λ r. ⌜ r ≡ 2 ^ n ⌝ }
 {
-    1 << n
+    (MAX_POINTS >> (MAX_VARIABLES - n)) as u16
 }
 
 // The place of a point's flag.

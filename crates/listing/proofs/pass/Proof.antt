@@ -17,105 +17,91 @@ use Rattle.masks.specs.Points.{primeBy}
 use Rattle.masks.specs.Entry.{candidateAt}
 use Rattle.listing.specs.Walk.{state}
 use Rattle.masks.proofs.PrimeTest.{entry-record}
-use Rattle.listing.proofs.Steps.{pass-skip, pass-spent, pass-off, pass-full, pass-write}
+use Rattle.listing.proofs.Steps.{pass-spent, pass-off, pass-full, pass-write}
 use Rattle.listing.proofs.pass.Statement.{statement}
 use Rattle.listing.proofs.pass.Tie as tie
-
-skipping-requires : tie.Need-skipping-requires
-skipping-requires c κs = search needs
-
-returns : tie.Need-returns
-returns c =
-    let a = c .before .before .before .before .args in
-    ap (λ (t : Tally). state t (now (a .room))) (c .skipping .ensures) ∙ pass-skip (primeBy (a .n) (a .on) (a .free)) (candidateAt (a .d) (a .p) (a .entry)) (a .tally) (now (a .room)) (c .before .if1 .taken)
 
 stopping-requires : tie.Need-stopping-requires
 stopping-requires c κs = search needs
 
-returns-2 : tie.Need-returns-2
-returns-2 c =
-    let e = c .before .before .before in
-    let a = e .before .before .before .args in
+returns : tie.Need-returns
+returns c =
+    let a = c .before .before .before .before .args in
     ap (λ (t : Tally). state t (now (a .room))) (c .stopping .ensures)
-    ∙ pass-spent (primeBy (a .n) (a .on) (a .free)) (candidateAt (a .d) (a .p) (a .entry)) (a .tally) (now (a .room)) (e .if1 .left) (c .before .if2 .taken)
+    ∙ pass-spent (primeBy (a .n) (a .on) (a .free)) (candidateAt (a .d) (a .p) (a .entry)) (a .tally) (now (a .room)) (c .before .if1 .taken)
 
 is-prime-requires : tie.Need-is-prime-requires
-is-prime-requires c κs = let s = c .before .before .before .before .before in (s .pre .0, (s .pre .1 .0, s .pre .1 .1 .0))
+is-prime-requires c κs = let s = c .before .before .before in (s .pre .0, (s .pre .1 .0, s .pre .1 .1 .0))
 
 passing-requires : tie.Need-passing-requires
 passing-requires c κs = search needs
 
-returns-3 : tie.Need-returns-3
-returns-3 c =
+returns-2 : tie.Need-returns-2
+returns-2 c =
     let i = c .before .before in
-    let e = i .before .before .before in
-    let a = e .before .before .before .args in
+    let a = i .before .before .before .before .args in
     ap (λ (t : Tally). state t (now (a .room))) (c .passing .ensures)
-    ∙ pass-off (primeBy (a .n) (a .on) (a .free)) (candidateAt (a .d) (a .p) (a .entry)) (a .tally) (now (a .room)) (e .if1 .left) (i .before .if2 .left)
-    (sym (i .is-prime .ensures) ∙ not-true (i .is-prime .result) (c .before .if3 .taken))
+    ∙ pass-off (primeBy (a .n) (a .on) (a .free)) (candidateAt (a .d) (a .p) (a .entry)) (a .tally) (now (a .room)) (i .before .if1 .left)
+    (sym (i .is-prime .ensures) ∙ not-true (i .is-prime .result) (c .before .if2 .taken))
 
-mul-if4 : tie.Need-mul-if4
-mul-if4 c = search needs
+mul-if3 : tie.Need-mul-if3
+mul-if3 c = search needs
 
-sub-if4 : tie.Need-sub-if4
-sub-if4 c = search needs
+sub-if3 : tie.Need-sub-if3
+sub-if3 c = search needs
 
 stopping-requires-2 : tie.Need-stopping-requires-2
 stopping-requires-2 c κs = search needs
 
-returns-4 : tie.Need-returns-4
-returns-4 c =
+returns-3 : tie.Need-returns-3
+returns-3 c =
     let i = c .before .before .before in
-    let e = i .before .before .before in
-    let a = e .before .before .before .args in
+    let a = i .before .before .before .before .args in
     ap (λ (t : Tally). state t (now (a .room))) (c .stopping2 .ensures)
-    ∙ pass-full (primeBy (a .n) (a .on) (a .free)) (candidateAt (a .d) (a .p) (a .entry)) (a .tally) (now (a .room)) (e .if1 .left) (i .before .if2 .left)
-    (sym (i .is-prime .ensures) ∙ not-false (i .is-prime .result) (c .before .before .if3 .left)) (omega (arith, c .before .if4 .taken))
+    ∙ pass-full (primeBy (a .n) (a .on) (a .free)) (candidateAt (a .d) (a .p) (a .entry)) (a .tally) (now (a .room)) (i .before .if1 .left)
+    (sym (i .is-prime .ensures) ∙ not-false (i .is-prime .result) (c .before .before .if2 .left)) (omega (arith, c .before .if3 .taken))
 
 put-requires : tie.Need-put-requires
 put-requires c κs =
-    let s = c .before .before .before .before .before .before .before .before .before in
+    let s = c .before .before .before .before .before .before .before in
     let k = s .pre .1 .1 .0 in
-    (omega (arith, c .before .if4 .left), (omega (arith, k .few, k .short), omega (arith, k .point, pow-mono (k .few))))
+    (omega (arith, c .before .if3 .left), (omega (arith, k .few, k .short), omega (arith, k .point, pow-mono (k .few))))
 
 writing-requires : tie.Need-writing-requires
 writing-requires c κs =
-    let s = c .before .before .before .before .before .before .before .before .before .before .before .before in
-    (pos-of-ne-zero (c .before .before .before .before .before .before .before .if2 .left), omega (arith, s .pre .1 .1 .1, s .good))
+    let s = c .before .before .before .before .before .before .before .before .before .before in
+    (pos-of-ne-zero (c .before .before .before .before .before .before .before .if1 .left), omega (arith, s .pre .1 .1 .1, s .good))
 
 same-length : tie.Need-same-length
 same-length c =
     let u = c .before .before .before in
-    let a = u .before .before .before .before .before .before .before .before .before .before .args in
+    let a = u .before .before .before .before .before .before .before .before .args in
     ap length (u .put .ensures) ∙ length-sets (now (a .room)) (recordLength * a .tally .written) (a .d ∷ a .p ∷ vectorsOf 6 (a .entry))
 
-returns-5 : tie.Need-returns-5
-returns-5 c =
+returns-4 : tie.Need-returns-4
+returns-4 c =
     let u = c .before .before .before in
     let i = u .before .before .before .before in
-    let e = i .before .before .before in
-    let s = e .before .before .before in
+    let s = i .before .before .before .before in
     let a = s .args in
     ap₂ state (c .writing .ensures) (u .put .ensures ∙ ap (sets (now (a .room)) (recordLength * a .tally .written)) (entry-record (s .pre .1 .1 .0)))
-    ∙ pass-write (primeBy (a .n) (a .on) (a .free)) (candidateAt (a .d) (a .p) (a .entry)) (a .tally) (now (a .room)) (e .if1 .left) (i .before .if2 .left)
-    (sym (i .is-prime .ensures) ∙ not-false (i .is-prime .result) (u .before .before .before .if3 .left)) (omega (arith, u .before .before .if4 .left))
+    ∙ pass-write (primeBy (a .n) (a .on) (a .free)) (candidateAt (a .d) (a .p) (a .entry)) (a .tally) (now (a .room)) (i .before .if1 .left)
+    (sym (i .is-prime .ensures) ∙ not-false (i .is-prime .result) (u .before .before .before .if2 .left)) (omega (arith, u .before .before .if3 .left))
 
 pub pass-spec : {M : Type 1} → statement M
 pass-spec =
     tie.close
     (tie.spec
-    skipping-requires
-    returns
     stopping-requires
-    returns-2
+    returns
     is-prime-requires
     passing-requires
-    returns-3
-    mul-if4
-    sub-if4
+    returns-2
+    mul-if3
+    sub-if3
     stopping-requires-2
-    returns-4
+    returns-3
     put-requires
     writing-requires
     same-length
-    returns-5)
+    returns-4)

@@ -5,7 +5,7 @@ use native.Mathlib.Nat.{pos-of-ne-zero, one-mul}
 use native.Mathlib.Omega.{arith}
 use lib.Dec.{lit<}
 use lib.Pow.{shl-exact}
-use lib.ListN.{length, getD}
+use lib.ListN.{length, getD, drop}
 use borrow.Author.Needs.{needs}
 use denote.Ref.{now}
 use Rattle.cubes.specs.Candidates.{candidatesFrom}
@@ -19,11 +19,11 @@ use Rattle.listing.proofs.walk.Statement.{statement}
 use Rattle.listing.proofs.walk.Tie as tie
 
 abbrev Inv-loop : tie.InvT-loop
-Inv-loop on free n degree skip allowance room₀ table tally₀ d₀ p₀ i₀ room tally d p i =
-    Stand n on free (length room₀) (walk (primeBy n on free) (candidatesFrom n degree) (state (starting skip allowance) room₀)) d p i (state tally room)
+Inv-loop on free n degree skip₀ allowance room₀ table tally₀ d₀ p₀ i₀ skip room tally d p i =
+    Stand n on free (length room₀) (walk (primeBy n on free) (drop skip₀ (candidatesFrom n degree)) (state (starting allowance) room₀)) skip d p i (state tally room)
 
 abbrev μ-loop : tie.MeasureT-loop
-μ-loop on free n degree skip allowance room₀ table tally₀ d₀ p₀ i₀ room tally d p i = d * 200000 + (64 - p) * 2900 + (2825 - i)
+μ-loop on free n degree skip₀ allowance room₀ table tally₀ d₀ p₀ i₀ skip room tally d p i = d * 200000 + (64 - p) * 2900 + (2825 - i)
 
 -- The number of points.
 size : (n : ℕ) → n ≤ 6 → 1 * 2 ^ n % 18446744073709551616 ≡ 2 ^ n
@@ -39,7 +39,7 @@ loop-holds : tie.Need-loop-holds Inv-loop μ-loop
 loop-holds c =
     let s = c .before .before .before in
     let a = s .args in
-    stand-start (a .n) (a .on) (a .free) (a .degree) (c .start-of .result) (starting (a .skip) (a .allowance)) (now (a .room)) (s .pre .1 .1 .0) (s .pre .1 .1 .1) (c .start-of .ensures) refl
+    stand-start (a .n) (a .on) (a .free) (a .degree) (a .skip) (c .start-of .result) (starting (a .allowance)) (now (a .room)) (s .pre .1 .1 .0) (s .pre .1 .1 .1) (c .start-of .ensures) refl
 
 first-taken-requires : tie.Need-first-taken-requires Inv-loop μ-loop
 first-taken-requires c κs = let t = c .before .loop .inv in (c .before .before .before .table .ensures, (t .few, (six t, t .upto)))
@@ -49,18 +49,18 @@ stop-of-requires c κs = six (c .before .before .loop .inv)
 
 -- The first entry taken, whether it is one, and that it is the table's.
 found : (c : tie.After-stop-of Inv-loop μ-loop)
-    → let l = c .before .before .before in FirstTaken (l .before .before .before .before .args .n) (l .loop .d) (l .loop .p) (l .loop .i) (c .before .first-taken .result)
+    → let l = c .before .before .before in FirstTaken (l .before .before .before .before .args .n) (l .loop .d) (l .loop .p) (l .loop .i) (l .loop .skip) (c .before .first-taken .result)
 found c = c .before .first-taken .ensures
 
-within : (c : tie.Then1 Inv-loop μ-loop) → c .before .before .first-taken .result < stop (c .before .before .before .before .loop .d)
+within : (c : tie.Then1 Inv-loop μ-loop) → c .before .before .first-taken .result .at < stop (c .before .before .before .before .loop .d)
 within c = omega (arith, c .if1 .taken, c .before .stop-of .ensures)
 
-beyond : (c : tie.Else1 Inv-loop μ-loop) → stop (c .before .before .before .before .loop .d) ≤ c .before .before .first-taken .result
+beyond : (c : tie.Else1 Inv-loop μ-loop) → stop (c .before .before .before .before .loop .d) ≤ c .before .before .first-taken .result .at
 beyond c = omega (arith, c .if1 .left, c .before .stop-of .ensures)
 
 own : (c : tie.Then1 Inv-loop μ-loop)
-    → getD (c .before .before .before .before .before .before .table .result) (c .before .before .first-taken .result) 0 ≡ getD entries (c .before .before .first-taken .result) 0
-own c = ap (λ l. getD l (c .before .before .first-taken .result) 0) (c .before .before .before .before .before .before .table .ensures)
+    → getD (c .before .before .before .before .before .before .table .result) (c .before .before .first-taken .result .at) 0 ≡ getD entries (c .before .before .first-taken .result .at) 0
+own c = ap (λ l. getD l (c .before .before .first-taken .result .at) 0) (c .before .before .before .before .before .before .table .ensures)
 
 mul-entry : tie.Need-mul-entry Inv-loop μ-loop
 mul-entry c = omega (arith, within c, last (c .before .before .before .before .loop .inv))

@@ -5,7 +5,6 @@ use Prim.Native.Nat.{ℕ, _-_, _^_, _≤_, _<_}
 use native.Mathlib.Omega.{arith}
 use borrow.Author.Needs.{needs}
 use lib.ListN.{length}
-use lib.Pow.{pow-mono}
 use Rattle.gf2.specs.Finite.{select}
 use Rattle.table.specs.Decision.{front}
 use Rattle.space.specs.Restriction.{project}
@@ -41,7 +40,7 @@ write-point-requires c κs =
     let k : l .w < 2 ^ a .n = omega (arith, c .before .before .before .point-count .ensures) in (
       s .pre .0,
       (
-        omega (arith, pow-mono (s .pre .0)),
+        k,
         λ e. omega (
           arith,
           written-room g t (l .w) (2 ^ a .n) (a .room .now) (s .pre .1) k e,

@@ -4,13 +4,14 @@ use mathlib.Core.Bool.{Bool, true, false, not}
 use native.Mathlib.Omega.{arith}
 use borrow.Author.Tests.{not-true, not-false}
 use borrow.Author.Needs.{needs}
+use lib.Pow.{pow-mono}
 use Rattle.space.specs.Witness.{flagged}
 use Rattle.projection.specs.Masks.{isKept}
 use Rattle.projection.proofs.write_point.Statement.{statement}
 use Rattle.projection.proofs.write_point.Tie as tie
 
 is-kept-requires : tie.Need-is-kept-requires
-is-kept-requires c κs = search needs
+is-kept-requires c κs = omega (arith, pow-mono (c .before .pre .0))
 
 returns : tie.Need-returns
 returns c =

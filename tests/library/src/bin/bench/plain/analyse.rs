@@ -33,8 +33,12 @@ fn variables(n: usize, basis: &Basis, leads: u16) -> (ShortList, ShortList) {
     (canonical, equations)
 }
 
-/// The bits of a point that aren't leads, the others dropped.
+/// The bits of a point that aren't leads, the others dropped; with no lead, the
+/// point itself.
 fn without_leads(n: usize, leads: u16, point: u16) -> u16 {
+    if leads == 0 {
+        return point;
+    }
     let mut kept = 0;
     for place in (0..n).rev() {
         if leads >> place & 1 == 0 {
