@@ -1,4 +1,4 @@
--- The end of a walk is the answer of the listing rule. Read next: Degrees.
+-- The end of a walk is the answer of the listing rule. Read next: Refusals.
 use mathlib.Core.Path.{_≡_, refl, sym, ap, ap₂, _∙_, subst}
 use mathlib.Core.Bool.{Bool, true, false}
 use mathlib.Core.Logic.{inl, inr}

@@ -3,6 +3,5 @@ pub mod Rows
 pub mod Steps
 pub mod Stand
 pub mod Ends
-pub mod Degrees
 pub mod Refusals
 pub mod Finish
