@@ -1,4 +1,4 @@
--- The numbers of candidates of no variables to six: document 01's, computed from the law for any number of variables.
+-- The numbers of candidates of no variables to six: document 01's, computed from the law for any number of variables. Read next: Degrees.
 use mathlib.Core.Path.{_≡_, refl, ap, ap₂, _∙_}
 use mathlib.Core.List.{List, [], _∷_, map, flatMap}
 use Prim.Native.Nat.{ℕ, zero, suc, _≤_}

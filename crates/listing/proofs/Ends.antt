@@ -1,4 +1,4 @@
--- The end of a walk is the answer of the listing rule. Read next: Degrees.
+-- The end of a walk is the answer of the listing rule. Read next: Refusals.
 use mathlib.Core.Path.{_≡_, refl, sym, ap, ap₂, _∙_, subst}
 use mathlib.Core.Bool.{Bool, true, false}
 use mathlib.Core.Logic.{inl, inr}
@@ -15,9 +15,9 @@ use Rattle.cubes.specs.Records.{maxListed, recordLength, recordOf, recordsOf}
 use Rattle.cubes.specs.Listing.{Passage, nothing, passage}
 use Rattle.cubes.specs.Listing as rule
 use Rattle.cubes.proofs.Listing.{record-length}
-use Rattle.listing.specs.declared.Tally.{Tally}
-use Rattle.listing.specs.Walk.{starting, passing, writing, stopping, State, state, walk}
-use Rattle.listing.proofs.Steps.{pass-spent, pass-off, pass-full, pass-write, walk-on, walk-stop}
+use Rattle.walk.specs.declared.Tally.{Tally}
+use Rattle.walk.specs.Walk.{starting, passing, writing, stopping, State, state, walk}
+use Rattle.walk.proofs.Steps.{pass-spent, pass-off, pass-full, pass-write, walk-on, walk-stop}
 
 -- The room with the records of some candidates after the first w records.
 abbrev filled : ℕ → List ℕ → List Candidate → List ℕ

@@ -23,8 +23,8 @@ use Rattle.cubes.proofs.Listing.{records-length, answer-on, answer-off, room-on
 use Rattle.counts.proofs.Counts.{count-at}
 use Rattle.listing.specs.declared.Start.{Start}
 use Rattle.masks.specs.Points.{MaskOf, primeBy}
-use Rattle.listing.specs.Places.{StartsAt}
-use Rattle.listing.specs.Walk.{starting, State, state, walk}
+use Rattle.listing.specs.Starts.{StartsAt}
+use Rattle.walk.specs.Walk.{starting, State, state, walk}
 use Rattle.listing.specs.Answers.{callOf}
 use Rattle.listing.proofs.Ends.{EndsAs, walk-is}
 use Rattle.listing.proofs.Refusals.{sound-call, sound-few}

@@ -1,209 +1,17 @@
-// The listing of primes (document 01, "Primes"): one walk over degree, least point and entry of the table of bases. What the listing is, is
+// The listing of primes (document 01, "Primes"): its refusals, where it starts, and the walk of crate `walk` from there. What the listing is, is
 // said in crate `cubes`; what the functions say of their results in specs/, the laws about that in proofs/.
 ghost use mathlib.Core.Path.{_≡_};
-ghost use mathlib.Core.Bool.{false};
-ghost use mathlib.Core.List.{[], _∷_};
-ghost use Prim.Native.Nat.{_+_, _*_, _^_, _≤_, _<_};
-ghost use lib.ListN.{length, drop};
-ghost use lib.Seq.{sets};
-ghost use Rattle.cubes.specs.Candidates.{candidatesOf, candidatesFrom, candidateCount};
-ghost use Rattle.cubes.specs.Records.{maxListed, recordLength};
+ghost use mathlib.Core.List.{[]};
+ghost use Prim.Native.Nat.{_≤_};
+ghost use lib.ListN.{length};
+ghost use Rattle.cubes.specs.Candidates.{candidatesOf, candidateCount};
+ghost use Rattle.cubes.specs.Records.{maxListed};
 ghost use Rattle.cubes.specs.Listing.{listingFault, answer, listingRoom};
-ghost use Rattle.bases.specs.Entries.{entries};
-ghost use Rattle.bases.specs.Bases.{stop, vectorsOf};
-ghost use Rattle.masks.specs.Points.{OfPoints, primeBy};
-ghost use Rattle.masks.specs.Entry.{candidateAt, EntryAt};
-ghost use Rattle.listing.specs.Places.{FirstTaken, StartsAt};
-ghost use Rattle.listing.specs.Walk.{starting, passing, writing, stopping, state, pass, walk};
+ghost use Rattle.listing.specs.Starts.{StartsAt};
 ghost use Rattle.listing.specs.Answers.{callOf, numbersOf};
 use masks::MAX_LISTED;
 use table::PLACE_FAULT;
 use table::SIZE_FAULT;
-
-// The number of bytes of a record, as `recordLength`.
-pub const RECORD_LENGTH: usize = 8;
-
-// ---- the entries of the table of bases
-
-// A place in the table of bases, and how many candidates are still to be skipped from there on.
-pub struct Found {
-    pub at: usize,
-    pub skip: u64,
-}
-
-// The first place from i on whose entry is taken with p, after so many such entries that are skipped, or the end of the entries of d vectors.
-fn first_taken(table: &[u64; 2825], n: usize, d: usize, p: u64, i: usize, skip: u64) -> Found
-    requires { ⌜ now table ≡ entries ⌝ }
-    requires { ⌜ n ≤ maxListed ⌝ }
-    requires { ⌜ d ≤ maxListed ⌝ }
-    requires { ⌜ i ≤ stop d ⌝ }
-    ensures { λ r. ⌜ FirstTaken n d p i skip r ⌝ }
-{
-    let end = masks::stop_of(d);
-    let mut at = i;
-    let mut left = skip;
-    while at < end {
-        if !masks::taken(n, p, table[at]) {
-            at += 1;
-            continue;
-        }
-        if left == 0 {
-            return Found { at, skip: 0 };
-        }
-        left -= 1;
-        at += 1;
-    }
-    Found { at, skip: left }
-}
-
-// ---- one candidate
-
-// The record after the first k records of the room.
-fn put(room: &mut [u8], k: usize, d: usize, p: u64, entry: u64)
-    requires { ⌜ recordLength * k + recordLength ≤ length (now room) ⌝ }
-    requires { ⌜ d < 256 ⌝ }
-    requires { ⌜ p < 256 ⌝ }
-    ensures { λ _. ⌜ now (room .exit) ≡ sets (now (room .entry)) (recordLength * k) (d ∷ p ∷ vectorsOf 6 entry) ⌝ }
-{
-    let at = RECORD_LENGTH * k;
-    room[at] = d as u8;
-    room[at + 1] = p as u8;
-    room[at + 2] = (entry % 256) as u8;
-    room[at + 3] = (entry / 256 % 256) as u8;
-    room[at + 4] = (entry / 256 / 256 % 256) as u8;
-    room[at + 5] = (entry / 256 / 256 / 256 % 256) as u8;
-    room[at + 6] = (entry / 256 / 256 / 256 / 256 % 256) as u8;
-    room[at + 7] = (entry / 256 / 256 / 256 / 256 / 256 % 256) as u8;
-}
-
-// What is left of a walk's allowance, how many records it has written, and whether it has stopped.
-pub struct Tally {
-    pub left: u64,
-    pub written: usize,
-    pub stopped: bool,
-}
-
-impl Tally {
-    fn passing(self) -> Tally
-        requires { ⌜ 0 < self .left ⌝ }
-        ensures { λ r. ⌜ r ≡ passing self ⌝ }
-    {
-        Tally {
-            left: self.left - 1,
-            written: self.written,
-            stopped: false,
-        }
-    }
-
-    fn writing(self) -> Tally
-        requires { ⌜ 0 < self .left ⌝ }
-        requires { ⌜ self .written + 1 < 2 ^ 64 ⌝ }
-        ensures { λ r. ⌜ r ≡ writing self ⌝ }
-    {
-        Tally {
-            left: self.left - 1,
-            written: self.written + 1,
-            stopped: false,
-        }
-    }
-
-    fn stopping(self) -> Tally
-        ensures { λ r. ⌜ r ≡ stopping self ⌝ }
-    {
-        Tally {
-            left: self.left,
-            written: self.written,
-            stopped: true,
-        }
-    }
-}
-
-// One candidate of a walk: passed, passed and written, or the walk stops before it.
-fn pass(
-    on: u64,
-    free: u64,
-    n: usize,
-    d: usize,
-    p: u64,
-    entry: u64,
-    tally: Tally,
-    room: &mut [u8],
-) -> Tally
-    requires { ⌜ OfPoints n on ⌝ }
-    requires { ⌜ OfPoints n free ⌝ }
-    requires { ⌜ EntryAt n d p entry ⌝ }
-    requires { ⌜ recordLength * tally .written ≤ length (now room) ⌝ }
-    ensures { λ r. ⌜ state r (now (room .exit)) ≡ pass (primeBy n on free) (candidateAt d p entry) (state tally (now (room .entry))) ⌝ }
-{
-    if tally.left == 0 {
-        return tally.stopping();
-    }
-    if !masks::is_prime(on, free, n, d, p, entry) {
-        return tally.passing();
-    }
-    let written = tally.written;
-    if room.len() - RECORD_LENGTH * written < RECORD_LENGTH {
-        return tally.stopping();
-    }
-    put(&mut *room, written, d, p, entry);
-    tally.writing()
-}
-
-// ---- the walk
-
-// The walk over the candidates of a degree and less, without the first few.
-fn walk(
-    on: u64,
-    free: u64,
-    n: usize,
-    degree: usize,
-    mut skip: u64,
-    allowance: u64,
-    room: &mut [u8],
-) -> Tally
-    requires { ⌜ OfPoints n on ⌝ }
-    requires { ⌜ OfPoints n free ⌝ }
-    requires { ⌜ n ≤ maxListed ⌝ }
-    requires { ⌜ degree ≤ n ⌝ }
-    ensures { λ r. ⌜ state r (now (room .exit)) ≡ walk (primeBy n on free) (drop skip (candidatesFrom n degree)) (state (starting allowance) (now (room .entry))) ⌝ }
-{
-    let table = bases::entries::table();
-    let mut tally = Tally {
-        left: allowance,
-        written: 0,
-        stopped: false,
-    };
-    let mut d = degree;
-    let mut p: u64 = 0;
-    let mut i = masks::start_of(d);
-    loop {
-        let found = first_taken(&table, n, d, p, i, skip);
-        skip = found.skip;
-        let at = found.at;
-        if at < masks::stop_of(d) {
-            let entry = table[at];
-            tally = pass(on, free, n, d, p, entry, tally, &mut *room);
-            if tally.stopped {
-                return tally;
-            }
-            i = at + 1;
-            continue;
-        }
-        p += 1;
-        if p < (1 << n) {
-            i = masks::start_of(d);
-            continue;
-        }
-        if d == 0 {
-            return tally;
-        }
-        d -= 1;
-        p = 0;
-        i = masks::start_of(d);
-    }
-}
-
-// ---- the call
 
 // Where a listing starts: the degree of its first candidates, and how many of that degree are behind it.
 pub struct Start {
@@ -350,7 +158,7 @@ pub fn list_primes(
     let on_mask = masks::points::mask_of(on);
     let free_mask = masks::points::mask_of(free);
     let start = start_at(n, place);
-    let tally = walk(
+    let tally = walk::walk(
         on_mask,
         free_mask,
         n,

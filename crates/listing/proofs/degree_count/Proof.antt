@@ -1,6 +1,6 @@
 -- `listing::degree_count` meets its contract: the numbers are those of `degree-at`. Assumes nothing.
 use borrow.Author.Needs.{needs}
-use Rattle.listing.proofs.Degrees.{degree-at}
+use Rattle.counts.proofs.Degrees.{degree-at}
 use Rattle.listing.proofs.degree_count.Statement.{statement}
 use Rattle.listing.proofs.degree_count.Tie as tie
 

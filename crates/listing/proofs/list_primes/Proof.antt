@@ -4,7 +4,7 @@ use native.Mathlib.Omega.{arith}
 use borrow.Author.Needs.{needs}
 use denote.Ref.{now}
 use Rattle.cubes.specs.Listing.{listingFault}
-use Rattle.listing.specs.Walk.{state}
+use Rattle.walk.specs.Walk.{state}
 use Rattle.listing.specs.Answers.{callOf}
 use Rattle.listing.proofs.Refusals.{sound-few, sound-on, sound-free, on-points, free-points}
 use Rattle.listing.proofs.Finish.{refused-numbers, refused-room, Finished, finish}

@@ -5,7 +5,7 @@ use native.Mathlib.Omega.{arith}
 use lib.ListN.{drop}
 use borrow.Author.Needs.{needs}
 use Rattle.cubes.specs.Candidates.{candidatesFrom, candidates}
-use Rattle.listing.proofs.Degrees.{degree-passed}
+use Rattle.counts.proofs.Degrees.{degree-passed}
 use Rattle.listing.proofs.start_at.Statement.{statement}
 use Rattle.listing.proofs.start_at.Tie as tie
 

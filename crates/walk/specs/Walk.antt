@@ -1,4 +1,4 @@
--- The listing rule of document 01, "Primes", as a walk: what each candidate changes, and all of them in order. Read next: Answers.
+-- The listing rule of document 01, "Primes", as a walk: what each candidate changes, and all of them in order. Read next: crate `listing`.
 use mathlib.Core.Bool.{Bool, true, false, cond}
 use mathlib.Core.List.{List, [], _∷_}
 use Prim.Native.Nat.{ℕ, _+_, _-_, _*_}
@@ -7,7 +7,7 @@ use lib.Seq.{sets}
 use lib.Dec.{ltb, eqb}
 use Rattle.cubes.specs.Cubes.{Candidate}
 use Rattle.cubes.specs.Records.{recordLength, recordOf}
-use Rattle.listing.specs.declared.Tally.{Tally}
+use Rattle.walk.specs.declared.Tally.{Tally}
 
 -- The tally at the start of a walk: the whole allowance is left.
 abbrev pub starting : ℕ → Tally

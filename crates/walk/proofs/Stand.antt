@@ -16,15 +16,15 @@ use Rattle.cubes.specs.Candidates.{points, candidatesAt, candidatesOf, candidat
 use Rattle.bases.specs.Entries.{entries}
 use Rattle.bases.specs.Bases.{start, stop, entriesOf, takesPoint}
 use Rattle.bases.proofs.Table.{entries-at}
-use Rattle.listing.specs.declared.Found.{Found}
-use Rattle.listing.specs.declared.Tally.{Tally}
+use Rattle.walk.specs.declared.Found.{Found}
+use Rattle.walk.specs.declared.Tally.{Tally}
 use Rattle.masks.specs.Points.{primeBy}
 use Rattle.masks.specs.Entry.{candidateAt, EntryAt}
 use Rattle.masks.proofs.Bounds.{bounds, entry-mem}
-use Rattle.listing.specs.Places.{placed, FirstTaken}
-use Rattle.listing.specs.Walk.{State, state, pass, walk}
-use Rattle.listing.proofs.Rows.{placed-taken}
-use Rattle.listing.proofs.Steps.{Kept, pass-kept, walk-on, walk-stop}
+use Rattle.walk.specs.Places.{placed, FirstTaken}
+use Rattle.walk.specs.Walk.{State, state, pass, walk}
+use Rattle.walk.proofs.Rows.{placed-taken}
+use Rattle.walk.proofs.Steps.{Kept, pass-kept, walk-on, walk-stop}
 
 -- ---- the points
 

@@ -1,4 +1,4 @@
--- Places in the table of bases and in the list of candidates: the entries from a place on, and where a listing starts. Read next: Walk.
+-- Places in the table of bases: the entries from a place on, and the first of them that a walk comes to. Read next: Walk.
 use mathlib.Core.Path.{_≡_}
 use mathlib.Core.Bool.{true}
 use mathlib.Core.List.{List, _++_, map}
@@ -7,12 +7,10 @@ use lib.ListN.{getD, drop}
 use lib.Seq.{slice}
 use Rattle.cubes.specs.Lists.{keep}
 use Rattle.cubes.specs.Cubes.{Candidate}
-use Rattle.cubes.specs.Candidates.{candidatesFrom, candidates}
 use Rattle.bases.specs.Entries.{entries}
 use Rattle.bases.specs.Bases.{stop, takesPoint}
 use Rattle.masks.specs.Entry.{candidateAt}
-use Rattle.listing.specs.declared.Found.{Found}
-use Rattle.listing.specs.declared.Start.{Start}
+use Rattle.walk.specs.declared.Found.{Found}
 
 -- The entries of d vectors from place i on that are taken with the point p.
 abbrev pub takenFrom : ℕ → ℕ → ℕ → ℕ → List ℕ
@@ -29,8 +27,3 @@ pub record FirstTaken (n d p i skip : ℕ) (r : Found) : Type 0 where
   pub high : r .at ≤ stop d
   pub same : (rest : List Candidate) → drop skip (placed n d p i rest) ≡ drop (r .skip) (placed n d p (r .at) rest)
   pub taken : r .at < stop d → (r .skip ≡ 0) × (takesPoint n p (getD entries (r .at) 0) ≡ true)
-
--- Where a listing starts: the candidates from the place on are those of a degree and less, without the first few.
-pub record StartsAt (n place : ℕ) (s : Start) : Type 0 where
-  pub short : s .degree ≤ n
-  pub same : drop place (candidates n) ≡ drop (s .skip) (candidatesFrom n (s .degree))

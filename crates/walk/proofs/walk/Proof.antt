@@ -1,4 +1,4 @@
--- `listing::walk` meets its contract: the loop stands where `Stand` says, and each way through a turn is one law of it. Assumes nothing.
+-- `walk::walk` meets its contract: the loop stands where `Stand` says, and each way through a turn is one law of it. Assumes nothing.
 use mathlib.Core.Path.{_≡_, refl, ap, _∙_}
 use Prim.Native.Nat.{ℕ, _+_, _-_, _*_, _%_, _^_, _<_, _≤_}
 use native.Mathlib.Nat.{pos-of-ne-zero, one-mul}
@@ -12,11 +12,11 @@ use Rattle.cubes.specs.Candidates.{candidatesFrom}
 use Rattle.bases.specs.Entries.{entries}
 use Rattle.bases.specs.Bases.{stop}
 use Rattle.masks.specs.Points.{primeBy}
-use Rattle.listing.specs.Places.{FirstTaken}
-use Rattle.listing.specs.Walk.{starting, state, walk}
-use Rattle.listing.proofs.Stand.{Stand, stand-start, six, last, small, entry-stands, passed-kept, to-entry, at-stop, to-point, at-end, to-degree}
-use Rattle.listing.proofs.walk.Statement.{statement}
-use Rattle.listing.proofs.walk.Tie as tie
+use Rattle.walk.specs.Places.{FirstTaken}
+use Rattle.walk.specs.Walk.{starting, state, walk}
+use Rattle.walk.proofs.Stand.{Stand, stand-start, six, last, small, entry-stands, passed-kept, to-entry, at-stop, to-point, at-end, to-degree}
+use Rattle.walk.proofs.walk.Statement.{statement}
+use Rattle.walk.proofs.walk.Tie as tie
 
 abbrev Inv-loop : tie.InvT-loop
 Inv-loop on free n degree skip₀ allowance room₀ table tally₀ d₀ p₀ i₀ skip room tally d p i =

@@ -1,4 +1,4 @@
--- `listing::pass` meets its contract: one law for each way that a candidate can go. Assumes nothing.
+-- `walk::pass` meets its contract: one law for each way that a candidate can go. Assumes nothing.
 use mathlib.Core.Path.{sym, ap, ap₂, _∙_}
 use mathlib.Core.List.{_∷_}
 use Prim.Native.Nat.{_*_}
@@ -12,14 +12,14 @@ use borrow.Author.Tests.{not-true, not-false}
 use denote.Ref.{now}
 use Rattle.cubes.specs.Records.{recordLength}
 use Rattle.bases.specs.Bases.{vectorsOf}
-use Rattle.listing.specs.declared.Tally.{Tally}
+use Rattle.walk.specs.declared.Tally.{Tally}
 use Rattle.masks.specs.Points.{primeBy}
 use Rattle.masks.specs.Entry.{candidateAt}
-use Rattle.listing.specs.Walk.{state}
+use Rattle.walk.specs.Walk.{state}
 use Rattle.masks.proofs.PrimeTest.{entry-record}
-use Rattle.listing.proofs.Steps.{pass-spent, pass-off, pass-full, pass-write}
-use Rattle.listing.proofs.pass.Statement.{statement}
-use Rattle.listing.proofs.pass.Tie as tie
+use Rattle.walk.proofs.Steps.{pass-spent, pass-off, pass-full, pass-write}
+use Rattle.walk.proofs.pass.Statement.{statement}
+use Rattle.walk.proofs.pass.Tie as tie
 
 stopping-requires : tie.Need-stopping-requires
 stopping-requires c κs = search needs

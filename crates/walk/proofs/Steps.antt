@@ -11,8 +11,8 @@ use lib.Seq.{sets, length-sets}
 use borrow.Author.Tests.{lt-ltb, le-ltb, ltb-false, eq-eqb, ne-eqb}
 use Rattle.cubes.specs.Cubes.{Candidate}
 use Rattle.cubes.specs.Records.{recordLength, recordOf}
-use Rattle.listing.specs.declared.Tally.{Tally}
-use Rattle.listing.specs.Walk.{passing, writing, stopping, State, state, pass, walk}
+use Rattle.walk.specs.declared.Tally.{Tally}
+use Rattle.walk.specs.Walk.{passing, writing, stopping, State, state, pass, walk}
 
 module _ (prime : Candidate → Bool) (c : Candidate) (t : Tally) (m : List ℕ) where
   pub pass-spent : t .left ≡ 0 → state (stopping t) m ≡ pass prime c (state t m)

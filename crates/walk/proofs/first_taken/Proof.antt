@@ -1,4 +1,4 @@
--- `listing::first_taken` meets its contract: what is left without the candidates still to be skipped stays the same. Assumes nothing.
+-- `walk::first_taken` meets its contract: what is left without the candidates still to be skipped stays the same. Assumes nothing.
 use mathlib.Core.Path.{_≡_, refl, sym, ap, _∙_}
 use mathlib.Core.List.{List}
 use Prim.Native.Nat.{ℕ, _+_, _-_, _≤_}
@@ -11,10 +11,10 @@ use Rattle.bases.specs.Entries.{entries}
 use Rattle.bases.specs.Bases.{takesPoint}
 use Rattle.masks.specs.Entry.{candidateAt}
 use Rattle.masks.proofs.Bounds.{bounds}
-use Rattle.listing.specs.Places.{placed}
-use Rattle.listing.proofs.Rows.{placed-next, placed-taken, drop-one}
-use Rattle.listing.proofs.first_taken.Statement.{statement}
-use Rattle.listing.proofs.first_taken.Tie as tie
+use Rattle.walk.specs.Places.{placed}
+use Rattle.walk.proofs.Rows.{placed-next, placed-taken, drop-one}
+use Rattle.walk.proofs.first_taken.Statement.{statement}
+use Rattle.walk.proofs.first_taken.Tie as tie
 
 abbrev Inv-loop : tie.InvT-loop
 Inv-loop table n d p i skip end at₀ left₀ at left =

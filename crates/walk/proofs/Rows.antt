@@ -14,7 +14,7 @@ use Rattle.bases.specs.Entries.{entries}
 use Rattle.bases.specs.Bases.{stop, takesPoint}
 use Rattle.masks.specs.Entry.{candidateAt}
 use Rattle.masks.proofs.Bounds.{entries-length, bounds}
-use Rattle.listing.specs.Places.{takenFrom, placed}
+use Rattle.walk.specs.Places.{takenFrom, placed}
 
 -- The entries from place i on: the first, if it is taken, and those from the next place on.
 taken-cons : (n d p i : ℕ) → d ≤ 6 → i < stop d

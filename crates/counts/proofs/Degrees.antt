@@ -1,4 +1,4 @@
--- The number of candidates of each degree, by computation, and whole degrees passed at once. Read next: Refusals.
+-- The number of candidates of each degree, by computation, and whole degrees passed at once. What a listing goes by.
 use mathlib.Core.Path.{_≡_, refl, sym, ap, _∙_}
 use mathlib.Core.Bool.{true}
 use mathlib.Core.List.{List, [], _∷_, flatMap}

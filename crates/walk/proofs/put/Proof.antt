@@ -1,11 +1,11 @@
--- `listing::put` meets its contract: eight stores, one after the other. Assumes nothing.
+-- `walk::put` meets its contract: eight stores, one after the other. Assumes nothing.
 use native.Mathlib.Numerals.{towards-suc}
 use lib.ListN.{length-set}
 use Rattle.bases.specs.Bases.{vectorsOf}
 use native.Mathlib.Omega.{arith}
 use borrow.Author.Needs.{needs}
-use Rattle.listing.proofs.put.Statement.{statement}
-use Rattle.listing.proofs.put.Tie as tie
+use Rattle.walk.proofs.put.Statement.{statement}
+use Rattle.walk.proofs.put.Tie as tie
 
 mul-at : tie.Need-mul-at
 mul-at c = search needs

@@ -1,0 +1,11 @@
+-- Where a listing starts in the list of candidates (document 01, "Primes"). Read next: Answers.
+use mathlib.Core.Path.{_≡_}
+use Prim.Native.Nat.{ℕ, _≤_}
+use lib.ListN.{drop}
+use Rattle.cubes.specs.Candidates.{candidatesFrom, candidates}
+use Rattle.listing.specs.declared.Start.{Start}
+
+-- Where a listing starts: the candidates from the place on are those of a degree and less, without the first few.
+pub record StartsAt (n place : ℕ) (s : Start) : Type 0 where
+  pub short : s .degree ≤ n
+  pub same : drop place (candidates n) ≡ drop (s .skip) (candidatesFrom n (s .degree))
