@@ -1,8 +1,8 @@
 -- The definitions as the loops of this crate meet them: one vector, one equation or one mask more.
-use mathlib.Core.Path.{_≡_, refl, sym, ap, _∙_}
+use mathlib.Core.Path.{_≡_, sym, ap, _∙_}
 use mathlib.Core.Bool.{cond}
 use mathlib.Core.List.{List, [], _∷_, _++_, map, append-assoc}
-use Prim.Native.Nat.{ℕ, zero, suc, _+_, _-_, _%_, _/_, _≤_, _<_}
+use Prim.Native.Nat.{ℕ, suc, _+_, _-_, _%_, _/_, _≤_, _<_}
 use native.Mathlib.Numerals.{add-one}
 use native.Mathlib.Omega.{arith}
 use lib.ListN.{length, take, drop, getD, length-map, length-take, drop-of-length-le}
@@ -46,11 +46,6 @@ module _ (f : ℕ → ℕ) (s : ShortList) (e : s ≡ short (listed s)) (i : ℕ
   mapped-all h = p ∙ ap (λ (l : List ℕ). short (map f l)) (take-all i (listed s) (omega (arith, short-len s (listed s) e)))
 
 -- ---- the vectors of an entry
-
-pub vectors-length : (d entry : ℕ) → length (vectorsOf d entry) ≡ d
-unfolding vectorsOf
-vectors-length zero entry = refl
-vectors-length (suc d) entry = ap suc (vectors-length d (entry / 256))
 
 pub vectors-next : (left rest : ℕ) (done : List ℕ) → 0 < left → (done ++ (rest % 256 ∷ [])) ++ vectorsOf (left - 1) (rest / 256) ≡ done ++ vectorsOf left rest
 unfolding vectorsOf

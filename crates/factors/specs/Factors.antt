@@ -3,8 +3,6 @@ use mathlib.Core.List.{List, map}
 use Prim.Native.Nat.{ℕ}
 use Rattle.basis.specs.Short.{short}
 use Rattle.product.specs.Product.{Factor}
-use Rattle.bases.specs.Bases.{vectorsOf}
-use Rattle.cubes.specs.Cubes.{Candidate, candidate}
 use Rattle.cover.specs.CanonicalProduct.{constantAt}
 use Rattle.cover.specs.Substitution.{substituteMask}
 use Rattle.factors.specs.declared.FactorList.{FactorList}
@@ -19,10 +17,6 @@ masksOf fs = map (λ f. f .mask) fs
 -- The value that stands for a product.
 abbrev pub factorsOf : List Factor → FactorList
 factorsOf fs = record { constants = short (constantsOf fs); masks = short (masksOf fs) }
-
--- The candidate of a least point and an entry of d vectors.
-abbrev pub candidateOf : ℕ → ℕ → ℕ → Candidate
-candidateOf d point entry = candidate point (vectorsOf d entry)
 
 -- The factors that masks in the y's have at a point, with the equations put in. That they are those of the canonical product, where the masks
 -- and the point are a candidate's, is `factors-product`.

@@ -15,33 +15,34 @@ use Rattle.cubes.specs.Cubes.{IsCandidate}
 use Rattle.cubes.specs.Records.{maxListed}
 use Rattle.cubes.proofs.Cubes.{point-below, vectors-below, degree-most}
 use Rattle.bases.specs.Bases.{vectorsOf}
+use Rattle.masks.specs.Entry.{candidateAt}
+use Rattle.masks.proofs.PrimeTest.{vectors-length}
 use Rattle.cover.specs.CanonicalProduct.{canonicalProduct}
 use Rattle.cover.specs.Substitution.{substituteProduct}
-use Rattle.factors.specs.Factors.{factorsOf, candidateOf, factorsAt}
+use Rattle.factors.specs.Factors.{factorsOf, factorsAt}
 use Rattle.factors.proofs.Products.{factors-product}
-use Rattle.factors.proofs.Steps.{vectors-length}
 use Rattle.factors.proofs.product_of.Statement.{statement}
 use Rattle.factors.proofs.product_of.Tie as tie
 
 -- The masks in the y's are known by their numbers.
 known : (es : List ℕ) (m d point entry : ℕ) (b : Basis) → b ≡ basisOf (vectorsOf d entry) → (ys : ShortList) → ys ≡ short (equations m (vectorsIn b))
-    → (ys ≡ short (listed ys)) × (factorsAt es (listed ys) point ≡ factorsOf (substituteProduct es (canonicalProduct m (candidateOf d point entry))))
+    → (ys ≡ short (listed ys)) × (factorsAt es (listed ys) point ≡ factorsOf (substituteProduct es (canonicalProduct m (candidateAt d point entry))))
 known es m d point entry b e ys q = (
   short-again ys (equations m (vectorsIn b)) q,
   ap (λ (l : List ℕ). factorsAt es l point) (short-listed ys (equations m (vectorsIn b)) q ∙ ap (equations m) (ap vectorsIn e ∙ vectors-back (vectorsOf d entry)))
       ∙ factors-product es m point (vectorsOf d entry),
 )
 
-module _ (m d point entry : ℕ) (few : m ≤ maxListed) (k : IsCandidate m (candidateOf d point entry)) where
+module _ (m d point entry : ℕ) (few : m ≤ maxListed) (k : IsCandidate m (candidateAt d point entry)) where
   few-vectors : d ≤ maxVariables
-  few-vectors = omega (arith, degree-most m (candidateOf d point entry) k, vectors-length d entry)
+  few-vectors = omega (arith, degree-most m (candidateAt d point entry) k, vectors-length d entry)
 
   low-point : point < 2 ^ maxListed
-  low-point = omega (arith, point-below m (candidateOf d point entry) k, pow-mono few)
+  low-point = omega (arith, point-below m (candidateAt d point entry) k, pow-mono few)
 
   a-basis : (b : Basis) → b ≡ basisOf (vectorsOf d entry) → IsBasis b
   a-basis b e = subst IsBasis (sym e) (is-basis (vectorsOf d entry) (k .reduced)
-      (λ v i. omega (arith, vectors-below m (candidateOf d point entry) k v i, pow-mono few)))
+      (λ v i. omega (arith, vectors-below m (candidateAt d point entry) k v i, pow-mono few)))
 
 basis-of-requires : tie.Need-basis-of-requires
 basis-of-requires c κs = let s = c in few-vectors (s .args .m) (s .args .d) (s .args .point) (s .args .entry) (s .pre .1 .0) (s .pre .1 .1)

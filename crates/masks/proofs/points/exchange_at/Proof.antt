@@ -1,13 +1,13 @@
--- `listing::points::exchange_at` meets its contract: a bit that is set exchanges, one that is clear moves nothing. Assumes nothing.
+-- `masks::points::exchange_at` meets its contract: a bit that is set exchanges, one that is clear moves nothing. Assumes nothing.
 use mathlib.Core.Path.{_≡_, sym, ap, _∙_, subst}
 use Prim.Native.Nat.{ℕ, _*_, _/_, _%_, _^_}
 use native.Mathlib.Nat.{one-mul, zero-mul}
 use native.Mathlib.Omega.{arith}
 use borrow.Author.Needs.{needs}
-use Rattle.listing.specs.Points.{Moved}
-use Rattle.listing.proofs.Moves.{moved-none}
-use Rattle.listing.proofs.points.exchange_at.Statement.{statement}
-use Rattle.listing.proofs.points.exchange_at.Tie as tie
+use Rattle.masks.specs.Points.{Moved}
+use Rattle.masks.proofs.Moves.{moved-none}
+use Rattle.masks.proofs.points.exchange_at.Statement.{statement}
+use Rattle.masks.proofs.points.exchange_at.Tie as tie
 
 shr-if1 : tie.Need-shr-if1
 shr-if1 c = search needs

@@ -1,4 +1,4 @@
--- `listing::points::some_point` meets its contract: at each turn the vectors not passed yet are what is left of the fold. Assumes nothing.
+-- `masks::points::some_point` meets its contract: at each turn the vectors not passed yet are what is left of the fold. Assumes nothing.
 use mathlib.Core.Path.{_≡_, refl, sym, ap, _∙_}
 use mathlib.Core.Bool.{Bool}
 use Prim.Native.Nat.{ℕ}
@@ -7,10 +7,10 @@ use borrow.Author.Needs.{needs}
 use Rattle.gf2.specs.Bits.{bit}
 use Rattle.cubes.specs.Primes.{somePoint}
 use Rattle.bases.specs.Bases.{vectorsOf}
-use Rattle.listing.specs.Points.{Fitting}
-use Rattle.listing.proofs.Folds.{fitting-step, some-on, some-end}
-use Rattle.listing.proofs.points.some_point.Statement.{statement}
-use Rattle.listing.proofs.points.some_point.Tie as tie
+use Rattle.masks.specs.Points.{Fitting}
+use Rattle.masks.proofs.Folds.{fitting-step, some-on, some-end}
+use Rattle.masks.proofs.points.some_point.Statement.{statement}
+use Rattle.masks.proofs.points.some_point.Tie as tie
 
 abbrev Inv-loop : tie.InvT-loop
 Inv-loop mask entry d some₀ rest₀ left₀ some rest left =

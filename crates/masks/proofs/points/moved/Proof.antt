@@ -1,13 +1,13 @@
--- `listing::points::moved` meets its contract: after k turns the mask is moved by the k lowest bits of v. Assumes nothing.
+-- `masks::points::moved` meets its contract: after k turns the mask is moved by the k lowest bits of v. Assumes nothing.
 use mathlib.Core.Path.{_≡_, ap, _∙_, subst}
 use Prim.Native.Nat.{ℕ, _-_, _%_, _^_, _≤_}
 use native.Mathlib.Nat.{mod-eq-of-lt}
 use native.Mathlib.Omega.{arith}
 use borrow.Author.Needs.{needs}
-use Rattle.listing.specs.Points.{Moved}
-use Rattle.listing.proofs.Moves.{moved-none, moved-on}
-use Rattle.listing.proofs.points.moved.Statement.{statement}
-use Rattle.listing.proofs.points.moved.Tie as tie
+use Rattle.masks.specs.Points.{Moved}
+use Rattle.masks.proofs.Moves.{moved-none, moved-on}
+use Rattle.masks.proofs.points.moved.Statement.{statement}
+use Rattle.masks.proofs.points.moved.Tie as tie
 
 abbrev Inv-loop : tie.InvT-loop
 Inv-loop mask v turned₀ k₀ turned k = (k ≤ 6) × Moved (v % 2 ^ k) mask turned

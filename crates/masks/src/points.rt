@@ -5,7 +5,7 @@ ghost use Prim.Native.Nat.{_^_, _<_, _*_, _/_, _%_};
 ghost use Rattle.table.specs.Table.{outside};
 ghost use Rattle.cubes.specs.Records.{maxListed};
 ghost use Rattle.bases.specs.Bases.{vectorsOf};
-ghost use Rattle.listing.specs.Points.{maskSize, MaskOf, lowPlaces, Moved, Fitting, EveryPoint, SomePoint};
+ghost use Rattle.masks.specs.Points.{maskSize, MaskOf, lowPlaces, Moved, Fitting, EveryPoint, SomePoint};
 
 // The mask of a list of points.
 pub fn mask_of(points: &[u16]) -> u64

@@ -1,4 +1,4 @@
--- `listing::is_prime` meets its contract: one law for each way that the test can go. Assumes nothing.
+-- `masks::is_prime` meets its contract: one law for each way that the test can go. Assumes nothing.
 use mathlib.Core.Path.{_≡_, sym, _∙_}
 use Prim.Native.Nat.{ℕ, _*_, _%_, _^_, _≤_}
 use native.Mathlib.Nat.{one-mul}
@@ -6,9 +6,9 @@ use native.Mathlib.Omega.{arith}
 use lib.Dec.{lit<}
 use lib.Pow.{shl-exact, pow-mono}
 use borrow.Author.Needs.{needs}
-use Rattle.listing.proofs.PrimeTest.{entry-fitting, prime-out, prime-more, prime-held}
-use Rattle.listing.proofs.is_prime.Statement.{statement}
-use Rattle.listing.proofs.is_prime.Tie as tie
+use Rattle.masks.proofs.PrimeTest.{entry-fitting, prime-out, prime-more, prime-held}
+use Rattle.masks.proofs.is_prime.Statement.{statement}
+use Rattle.masks.proofs.is_prime.Tie as tie
 
 -- The number of points of a candidate.
 size : (d : ℕ) → d ≤ 6 → 1 * 2 ^ d % 4294967296 ≡ 2 ^ d

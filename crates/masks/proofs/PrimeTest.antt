@@ -1,4 +1,4 @@
--- Laws of the test for a prime by masks: it is that of crate `cubes`, since a mask's count of ones is the number of its points. Read next: Steps.
+-- Laws of the test for a prime by masks: it is that of crate `cubes`, since a mask's count of ones is the number of its points.
 use mathlib.Core.Path.{_≡_, refl, sym, ap, ap₂, _∙_, subst, fun-ext}
 use mathlib.Core.Bool.{Bool, true, false, cond}
 use mathlib.Core.Logic.{_≢_, inl, inr}
@@ -28,9 +28,9 @@ use Rattle.cubes.proofs.Spaces.{prime-count}
 use Rattle.bases.specs.Bases.{vectorsOf, maskOf, fitsEntry, takesPoint}
 use Rattle.bases.proofs.Masks.{mask-least, mask-below}
 use Rattle.bases.proofs.Table.{entry-mask, entry-reduced, entry-bytes}
-use Rattle.listing.specs.Points.{maskSize, OfPoints, Fitting, EveryPoint, SomePoint, primeBy}
-use Rattle.listing.specs.Entry.{candidateAt, EntryAt}
-use Rattle.listing.proofs.Bits.{bit-or, bit-cut}
+use Rattle.masks.specs.Points.{maskSize, OfPoints, Fitting, EveryPoint, SomePoint, primeBy}
+use Rattle.masks.specs.Entry.{candidateAt, EntryAt}
+use Rattle.masks.proofs.Bits.{bit-or, bit-cut}
 
 -- ---- the count of ones
 

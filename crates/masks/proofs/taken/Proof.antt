@@ -1,4 +1,4 @@
--- `listing::taken` meets its contract: the lead bits of the entry decide. Assumes nothing.
+-- `masks::taken` meets its contract: the lead bits of the entry decide. Assumes nothing.
 use mathlib.Core.Path.{_≡_, _∙_}
 use Prim.Native.Nat.{ℕ, _*_, _%_, _^_, _≤_}
 use native.Mathlib.Nat.{one-mul}
@@ -6,9 +6,9 @@ use native.Mathlib.Omega.{arith}
 use lib.Dec.{lit<}
 use lib.Pow.{shl-exact}
 use borrow.Author.Needs.{needs}
-use Rattle.listing.proofs.Rows.{takes-fitting, takes-not}
-use Rattle.listing.proofs.taken.Statement.{statement}
-use Rattle.listing.proofs.taken.Tie as tie
+use Rattle.masks.proofs.Bounds.{takes-fitting, takes-not}
+use Rattle.masks.proofs.taken.Statement.{statement}
+use Rattle.masks.proofs.taken.Tie as tie
 
 -- The number of points.
 size : (n : ℕ) → n ≤ 6 → 1 * 2 ^ n % 18446744073709551616 ≡ 2 ^ n

@@ -1,4 +1,4 @@
--- Laws of the folds over an entry's vectors, and of the mask of a list of points. Read next: Rows.
+-- Laws of the folds over an entry's vectors, and of the mask of a list of points. Read next: Bounds.
 use mathlib.Core.Path.{_≡_, refl, sym, ap, _∙_, subst, fun-ext}
 use mathlib.Core.Bool.{Bool, true, false, _&&_, _||_}
 use mathlib.Core.Logic.{inl, inr}
@@ -18,8 +18,8 @@ use Rattle.gf2.proofs.Xor.{bit-and, bit-pow}
 use Rattle.cubes.specs.Primes.{everyPoint, somePoint}
 use Rattle.cubes.proofs.Spaces.{every-step, some-step}
 use Rattle.bases.specs.Bases.{vectorsOf}
-use Rattle.listing.specs.Points.{maskSize, Moved, Fitting}
-use Rattle.listing.proofs.Bits.{bit-or}
+use Rattle.masks.specs.Points.{maskSize, Moved, Fitting}
+use Rattle.masks.proofs.Bits.{bit-or}
 
 -- ---- the vectors of an entry one after the other
 

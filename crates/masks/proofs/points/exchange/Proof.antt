@@ -1,4 +1,4 @@
--- `listing::points::exchange` meets its contract: the bits of the low places and of the others change places. Assumes nothing.
+-- `masks::points::exchange` meets its contract: the bits of the low places and of the others change places. Assumes nothing.
 use mathlib.Core.Path.{_≡_, _∙_}
 use Prim.Native.Nat.{ℕ, _*_, _%_, _^_, _<_}
 use native.Mathlib.Nat.{one-mul}
@@ -6,9 +6,9 @@ use native.Mathlib.Omega.{arith}
 use lib.Dec.{lit<}
 use lib.Pow.{shl-exact, pow-lt}
 use borrow.Author.Needs.{needs}
-use Rattle.listing.proofs.Moves.{exchange-moved}
-use Rattle.listing.proofs.points.exchange.Statement.{statement}
-use Rattle.listing.proofs.points.exchange.Tie as tie
+use Rattle.masks.proofs.Moves.{exchange-moved}
+use Rattle.masks.proofs.points.exchange.Statement.{statement}
+use Rattle.masks.proofs.points.exchange.Tie as tie
 
 -- The width of a block.
 width : (k : ℕ) → k < 6 → 1 * 2 ^ k % 18446744073709551616 ≡ 2 ^ k

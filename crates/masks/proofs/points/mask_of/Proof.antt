@@ -1,4 +1,4 @@
--- `listing::points::mask_of` meets its contract: the points from place i on are what is left to be put in. Assumes nothing.
+-- `masks::points::mask_of` meets its contract: the points from place i on are what is left to be put in. Assumes nothing.
 use mathlib.Core.Path.{_≡_, refl, sym, ap, _∙_}
 use mathlib.Core.Bool.{Bool, true, false, _||_}
 use mathlib.Core.List.{[]}
@@ -11,9 +11,9 @@ use Rattle.gf2.specs.Finite.{holds}
 use Rattle.gf2.proofs.Xor.{bit-zero}
 use Rattle.table.proofs.Table.{inside-at}
 use Rattle.cubes.specs.Records.{maxListed}
-use Rattle.listing.proofs.Folds.{mask-next}
-use Rattle.listing.proofs.points.mask_of.Statement.{statement}
-use Rattle.listing.proofs.points.mask_of.Tie as tie
+use Rattle.masks.proofs.Folds.{mask-next}
+use Rattle.masks.proofs.points.mask_of.Statement.{statement}
+use Rattle.masks.proofs.points.mask_of.Tie as tie
 
 abbrev Inv-loop : tie.InvT-loop
 Inv-loop points mask₀ i₀ mask i = (i ≤ length points) × ((x : ℕ) → bit x mask || holds (drop i points) x ≡ holds points x)

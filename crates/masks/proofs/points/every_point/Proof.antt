@@ -1,4 +1,4 @@
--- `listing::points::every_point` meets its contract: at each turn the vectors not passed yet are what is left of the fold. Assumes nothing.
+-- `masks::points::every_point` meets its contract: at each turn the vectors not passed yet are what is left of the fold. Assumes nothing.
 use mathlib.Core.Path.{_≡_, refl, sym, ap, _∙_}
 use mathlib.Core.Bool.{Bool}
 use Prim.Native.Nat.{ℕ}
@@ -7,10 +7,10 @@ use borrow.Author.Needs.{needs}
 use Rattle.gf2.specs.Bits.{bit}
 use Rattle.cubes.specs.Primes.{everyPoint}
 use Rattle.bases.specs.Bases.{vectorsOf}
-use Rattle.listing.specs.Points.{Fitting}
-use Rattle.listing.proofs.Folds.{fitting-step, every-on, every-end}
-use Rattle.listing.proofs.points.every_point.Statement.{statement}
-use Rattle.listing.proofs.points.every_point.Tie as tie
+use Rattle.masks.specs.Points.{Fitting}
+use Rattle.masks.proofs.Folds.{fitting-step, every-on, every-end}
+use Rattle.masks.proofs.points.every_point.Statement.{statement}
+use Rattle.masks.proofs.points.every_point.Tie as tie
 
 abbrev Inv-loop : tie.InvT-loop
 Inv-loop mask entry d every₀ rest₀ left₀ every rest left =

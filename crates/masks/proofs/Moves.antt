@@ -15,8 +15,8 @@ use Rattle.gf2.specs.Finite.{all}
 use Rattle.gf2.proofs.Logic.{and-l, and-r, and-false, and-true, or-cases}
 use Rattle.gf2.proofs.Finite.{all-at}
 use Rattle.gf2.proofs.Xor.{bit-and, bit-big, xor-assoc, xor-cancel}
-use Rattle.listing.specs.Points.{maskSize, lowPlaces, Moved}
-use Rattle.listing.proofs.Bits.{bit-or, bit-down, bit-up, bit-under, bit-cut}
+use Rattle.masks.specs.Points.{maskSize, lowPlaces, Moved}
+use Rattle.masks.proofs.Bits.{bit-or, bit-down, bit-up, bit-under, bit-cut}
 
 -- ---- one bit
 
