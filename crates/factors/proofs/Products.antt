@@ -1,15 +1,24 @@
--- Laws of specs.Factors: the factors of a candidate's masks at its least point are those of its canonical product, with the equations put in.
+-- Laws of specs.Factors: the factors of a candidate's masks at its least point are those of its canonical product, with the equations put in;
+-- a product put into a value is read back.
 -- Read next: Steps.
-use mathlib.Core.Path.{_≡_, sym, ap, ap₂, _∙_}
-use mathlib.Core.List.{List, map, map-map}
-use Prim.Native.Nat.{ℕ}
+use mathlib.Core.Path.{_≡_, refl, sym, ap, ap₂, _∙_, subst}
+use mathlib.Core.List.{List, [], _∷_, map, map-map}
+use Prim.Native.Nat.{ℕ, _-_, _≤_}
+use native.Mathlib.Omega.{arith}
+use lib.ListN.{length, length-map}
+use Rattle.gf2.specs.Finite.{Mem}
 use Rattle.gf2.specs.Basis.{noncanonicalPlaces}
+use Rattle.gf2.proofs.Finite.{map-mem}
 use Rattle.basis.specs.Short.{short}
+use Rattle.basis.proofs.Values.{listed-back, short-len}
 use Rattle.space.specs.Restriction.{equation, equations}
-use Rattle.cubes.specs.Cubes.{candidate}
+use Rattle.product.specs.Product.{Factor}
+use Rattle.cubes.specs.Cubes.{Candidate, candidate, degree, IsCandidate}
 use Rattle.cover.specs.CanonicalProduct.{constantAt, placeFactor, canonicalProduct}
 use Rattle.cover.specs.Substitution.{substituteMask, substituteFactor, substituteProduct}
-use Rattle.factors.specs.Factors.{constantsOf, masksOf, factorsOf, factorsAt}
+use Rattle.cover.proofs.CanonicalProduct.{product-fits, product-length}
+use Rattle.factors.specs.declared.FactorList.{FactorList}
+use Rattle.factors.specs.Factors.{constantsOf, masksOf, factorsOf, factorsAt, paired, productIn, IsProduct}
 
 -- The masks in the y's of a candidate are the equations of its basis.
 module _ (es : List ℕ) (m point : ℕ) (bs : List ℕ) where
@@ -30,3 +39,41 @@ module _ (es : List ℕ) (m point : ℕ) (bs : List ℕ) where
 
   pub factors-product : factorsAt es (equations m bs) point ≡ factorsOf (substituteProduct es (canonicalProduct m (candidate point bs)))
   factors-product = ap₂ (λ (cs ms : List ℕ). record { constants = short cs; masks = short ms }) same-constants same-masks
+
+-- ---- a product by value
+
+paired-back : (fs : List Factor) → paired (constantsOf fs) (masksOf fs) ≡ fs
+unfolding paired
+paired-back [] = refl
+paired-back (f ∷ fs) = ap (λ l. f ∷ l) (paired-back fs)
+
+-- The value that stands for a product is read back.
+pub product-back : (fs : List Factor) → productIn (factorsOf fs) ≡ fs
+product-back fs = rw (listed-back (constantsOf fs), listed-back (masksOf fs)) (paired-back fs)
+
+pub is-product : (fs : List Factor) → ((f : Factor) → Mem f fs → f .constant ≤ 1) → IsProduct (factorsOf fs)
+is-product fs h = record {
+  packed = ap factorsOf (sym (product-back fs));
+  binary = λ f i. h f (subst (Mem f) (product-back fs) i);
+}
+
+-- The constants and the masks of a product are as many as its factors, and stand at their places.
+module _ (r : FactorList) (k : IsProduct r) where
+  pub constants-len : r .constants .len ≡ length (productIn r)
+  constants-len = short-len (r .constants) (constantsOf (productIn r)) (ap (λ (x : FactorList). x .constants) (k .packed)) ∙ length-map (productIn r) (λ f. f .constant)
+
+  pub masks-len : r .masks .len ≡ length (productIn r)
+  masks-len = short-len (r .masks) (masksOf (productIn r)) (ap (λ (x : FactorList). x .masks) (k .packed)) ∙ length-map (productIn r) (λ f. f .mask)
+
+-- ---- the product written for a candidate
+
+module _ (es : List ℕ) (m : ℕ) (c : Candidate) (k : IsCandidate m c) where
+  pub product-binary : (f : Factor) → Mem f (substituteProduct es (canonicalProduct m c)) → f .constant ≤ 1
+  unfolding substituteProduct substituteFactor
+  product-binary f i =
+      let g = map-mem (substituteFactor es) (canonicalProduct m c) f i in
+      rw (g .2) (product-fits m c k (g .0) (g .1) .binary)
+
+  pub product-factors : length (substituteProduct es (canonicalProduct m c)) ≡ m - degree c
+  unfolding substituteProduct
+  product-factors = length-map (canonicalProduct m c) (substituteFactor es) ∙ omega (arith, product-length m c k)
