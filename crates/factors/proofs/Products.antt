@@ -1,24 +1,27 @@
 -- Laws of specs.Factors: the factors of a candidate's masks at its least point are those of its canonical product, with the equations put in;
 -- a product put into a value is read back.
--- Read next: Steps.
 use mathlib.Core.Path.{_≡_, refl, sym, ap, ap₂, _∙_, subst}
 use mathlib.Core.List.{List, [], _∷_, map, map-map}
-use Prim.Native.Nat.{ℕ, _-_, _≤_}
+use Prim.Native.Nat.{ℕ, zero, suc, _-_, _≤_, _<_}
+use native.Mathlib.Nat.{le-of-suc-le-suc}
 use native.Mathlib.Omega.{arith}
-use lib.ListN.{length, length-map}
+use lib.ListN.{length, getD, length-map}
+use lib.Seq.{getD-take}
+use Rattle.gf2.specs.Limits.{maxVariables}
 use Rattle.gf2.specs.Finite.{Mem}
 use Rattle.gf2.specs.Basis.{noncanonicalPlaces}
-use Rattle.gf2.proofs.Finite.{map-mem}
-use Rattle.basis.specs.Short.{short}
-use Rattle.basis.proofs.Values.{listed-back, short-len}
+use Rattle.gf2.proofs.Finite.{getD-mem, map-mem}
+use Rattle.basis.specs.Short.{listed, short}
+use Rattle.basis.proofs.Values.{listed-back, short-again, short-len}
 use Rattle.space.specs.Restriction.{equation, equations}
-use Rattle.product.specs.Product.{Factor}
+use Rattle.product.specs.Product.{Factor, factor}
 use Rattle.cubes.specs.Cubes.{Candidate, candidate, degree, IsCandidate}
 use Rattle.cover.specs.CanonicalProduct.{constantAt, placeFactor, canonicalProduct}
 use Rattle.cover.specs.Substitution.{substituteMask, substituteFactor, substituteProduct}
 use Rattle.cover.proofs.CanonicalProduct.{product-fits, product-length}
 use Rattle.factors.specs.declared.FactorList.{FactorList}
 use Rattle.factors.specs.Factors.{constantsOf, masksOf, factorsOf, factorsAt, paired, productIn, IsProduct}
+use Rattle.factors.proofs.Steps.{short-few}
 
 -- The masks in the y's of a candidate are the equations of its basis.
 module _ (es : List ℕ) (m point : ℕ) (bs : List ℕ) where
@@ -47,6 +50,13 @@ unfolding paired
 paired-back [] = refl
 paired-back (f ∷ fs) = ap (λ l. f ∷ l) (paired-back fs)
 
+paired-at : (constants masks : List ℕ) (i : ℕ) → i < length (paired constants masks) → getD (paired constants masks) i (factor 0 0) ≡ factor (getD constants i 0) (getD masks i 0)
+unfolding paired
+paired-at [] masks i h = absurd (omega arith)
+paired-at (constant ∷ constants) [] i h = absurd (omega arith)
+paired-at (constant ∷ constants) (mask ∷ masks) zero h = refl
+paired-at (constant ∷ constants) (mask ∷ masks) (suc i) h = paired-at constants masks i (le-of-suc-le-suc h)
+
 -- The value that stands for a product is read back.
 pub product-back : (fs : List Factor) → productIn (factorsOf fs) ≡ fs
 product-back fs = rw (listed-back (constantsOf fs), listed-back (masksOf fs)) (paired-back fs)
@@ -64,6 +74,19 @@ module _ (r : FactorList) (k : IsProduct r) where
 
   pub masks-len : r .masks .len ≡ length (productIn r)
   masks-len = short-len (r .masks) (masksOf (productIn r)) (ap (λ (x : FactorList). x .masks) (k .packed)) ∙ length-map (productIn r) (λ f. f .mask)
+
+  pub masks-few : length (r .masks .values) ≡ maxVariables → r .masks .len ≤ maxVariables
+  masks-few l = short-few (r .masks) (short-again (r .masks) (masksOf (productIn r)) (ap (λ (x : FactorList). x .masks) (k .packed))) l
+
+  module _ (i : ℕ) (h : i < r .masks .len) where
+    pub factor-at : getD (productIn r) i (factor 0 0) ≡ factor (getD (r .constants .values) i 0) (getD (r .masks .values) i 0)
+    factor-at =
+        paired-at (listed (r .constants)) (listed (r .masks)) i (omega (arith, masks-len))
+        ∙ ap₂ factor (getD-take (r .constants .len) (r .constants .values) i 0 (omega (arith, constants-len, masks-len))) (getD-take (r .masks .len) (r .masks .values) i 0 h)
+
+    pub constant-binary : getD (r .constants .values) i 0 ≤ 1
+    constant-binary =
+        subst (λ (f : Factor). f .constant ≤ 1) factor-at (k .binary (getD (productIn r) i (factor 0 0)) (getD-mem (productIn r) i (factor 0 0) (omega (arith, masks-len))))
 
 -- ---- the product written for a candidate
 

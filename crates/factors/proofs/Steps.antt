@@ -1,4 +1,4 @@
--- The definitions as the loops of this crate meet them: one vector, one equation or one mask more.
+-- The definitions as the loops of this crate meet them: one vector, one equation or one mask more. Read next: Products.
 use mathlib.Core.Path.{_≡_, sym, ap, _∙_}
 use mathlib.Core.Bool.{cond}
 use mathlib.Core.List.{List, [], _∷_, _++_, map, append-assoc}
