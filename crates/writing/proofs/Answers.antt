@@ -1,5 +1,5 @@
 -- What the call gives by what it found: the form of the completed function, and the four ways out. Read next: Refusals.
-use mathlib.Core.Path.{_≡_, refl, sym, ap, _∙_, subst}
+use mathlib.Core.Path.{_≡_, refl, sym, ap, ap₂, _∙_, subst}
 use mathlib.Core.Bool.{Bool, true, false, cond}
 use mathlib.Core.Logic.{_≢_}
 use mathlib.Core.List.{List, [], _∷_, map}
@@ -84,7 +84,7 @@ module _ (n : ℕ) (on free : List ℕ) (d : Completed) (k : IsCompleted n on fr
         ∙ ap (λ (l : ℕ). map (λ c. substituteProduct (equations n (linearSpace n f)) (canonicalProduct (n - l) c)) (chosen (n - l) (restriction n (linearSpace n f) g))) space-len
         ∙ ap (λ (x : List ℕ). map (writtenProduct n (linearSpace n f)) (chosen (n - length (linearSpace n f)) x)) (restriction-ext n (linearSpace n f) g f (k .flags))
 
-    pub chosen-bytes : (es : List ℕ) → es ≡ equations n (vectorsOf (d .basis)) → encodeForm (record { variables = n; products = productsBy es (n - d .basis .len) r (r .count) }) ≡ formBytes n on free
+    chosen-bytes : (es : List ℕ) → es ≡ equations n (vectorsOf (d .basis)) → encodeForm (record { variables = n; products = productsBy es (n - d .basis .len) r (r .count) }) ≡ formBytes n on free
     unfolding formBytes
     chosen-bytes es e = ap (λ ps. encodeForm (record { variables = n; products = ps })) (chosen-form es e)
 
@@ -93,10 +93,15 @@ module _ (n : ℕ) (on free : List ℕ) (d : Completed) (k : IsCompleted n on fr
         let es = equations n (vectorsOf (d .basis)) in
         sym (form-bytes-length es (n - d .basis .len) r candidates n) ∙ ap length (chosen-bytes es refl)
 
-    pub chosen-count : r .count ≡ length (writtenForm n on free)
-    chosen-count =
+    -- The numbers returned with it, and the room that has it at its front.
+    pub chosen-numbers : (long : ℕ) → long ≡ formLength (n - d .basis .len) r → _≡_ {A = FormWritten} (record { refusal = 0; length = long; products = r .count }) (writeAccepted n on free)
+    chosen-numbers long e =
         let es = equations n (vectorsOf (d .basis)) in
-        sym (products-count es (n - d .basis .len) r (r .count)) ∙ ap length (chosen-form es refl)
+        ap₂ (λ (x y : ℕ). record { refusal = 0; length = x; products = y }) (e ∙ chosen-length) (sym (products-count es (n - d .basis .len) r (r .count)) ∙ ap length (chosen-form es refl))
+
+    pub chosen-room : (es room after : List ℕ) → es ≡ equations n (vectorsOf (d .basis))
+        → after ≡ front (encodeForm (record { variables = n; products = productsBy es (n - d .basis .len) r (r .count) })) room → after ≡ front (formBytes n on free) room
+    chosen-room es room after e q = q ∙ ap (λ (x : List ℕ). front x room) (chosen-bytes es e)
 
 -- ---- the four ways out of the call: refused for the table, refused for the size, refused for the room, accepted
 

@@ -51,7 +51,7 @@ slice-aggregate-write-kept : tie.Need-slice-aggregate-write-kept
 slice-aggregate-write-kept c = search needs
 
 write-kept-requires : tie.Need-write-kept-requires
-write-kept-requires c κs = 
+write-kept-requires c κs =
     let s = c .before .before .before in
     let l = c .before .before .leads in
     (s .pre .few, enough (s .args .n) (s .args .basis) (s .pre) (flagged (s .args .flags .now)) (l .result) (l .ensures))
@@ -66,7 +66,7 @@ part-choose-start : tie.Need-part-choose-start
 part-choose-start c = search needs
 
 part-choose-end : tie.Need-part-choose-end
-part-choose-end c = 
+part-choose-end c =
     let s = c .before .before .before .before .before .before .before in
     let l = c .before .before .before .before .before .before .leads in
     let q = c .before .before .before .before .before .count-kept in
@@ -74,18 +74,21 @@ part-choose-end c =
     inside (s .args .n) (s .args .basis) (s .pre) (flagged (s .args .flags .now)) (l .result) (l .ensures) (q .result) (q .ensures) (replicate 64 0) (w .last .1 .1 .1 .0) (w .ensures)
 
 choose-requires : tie.Need-choose-requires
-choose-requires c κs = 
+choose-requires c κs =
     let s = c .before .before .before .before .before .before .before .before in
     let l = c .before .before .before .before .before .before .before .leads in
     let q = c .before .before .before .before .before .before .count-kept in
     let w = c .before .before .before .before .write-kept in
-    let p = part (s .args .n) (s .args .basis) (s .pre) (flagged (s .args .flags .now)) (l .result) (l .ensures) (q .result) (q .ensures) (replicate 64 0) (w .last .1 .1 .1 .0) (w .ensures) in
-    (s .pre .listed,
-    (ap (outside (s .args .n - s .args .basis .len)) p ∙ points-inside (s .args .n) (s .args .basis) (s .pre) (flagged (s .args .flags .now)),
-    ap unordered p ∙ points-rise (s .args .n) (s .args .basis) (s .pre) (flagged (s .args .flags .now))))
+    let p = part (s .args .n) (s .args .basis) (s .pre) (flagged (s .args .flags .now)) (l .result) (l .ensures) (q .result) (q .ensures) (replicate 64 0) (w .last .1 .1 .1 .0) (w .ensures) in (
+      s .pre .listed,
+      (
+        ap (outside (s .args .n - s .args .basis .len)) p ∙ points-inside (s .args .n) (s .args .basis) (s .pre) (flagged (s .args .flags .now)),
+        ap unordered p ∙ points-rise (s .args .n) (s .args .basis) (s .pre) (flagged (s .args .flags .now)),
+      ),
+    )
 
 returns : tie.Need-returns
-returns c = 
+returns c =
     let s = c .before .before .before .before .before .before .before .before .before in
     let l = c .before .before .before .before .before .before .before .before .leads in
     let q = c .before .before .before .before .before .before .before .count-kept in
