@@ -22,6 +22,7 @@ mod form_rewrite;
 mod linear_space;
 mod list_primes;
 mod read_table;
+mod write_form;
 
 mod examples;
 mod published;
