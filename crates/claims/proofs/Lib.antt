@@ -1,2 +1,3 @@
 -- Claims about the whole library.
+pub mod Demand1
 pub mod Examples
