@@ -1,3 +1,4 @@
 -- Claims about the whole library.
 pub mod Demand1
+pub mod Demand2
 pub mod Examples

@@ -6,7 +6,7 @@ use mathlib.Core.Path.{_≡_}
 use mathlib.Core.Bool.{Bool, true, false}
 use mathlib.Core.Logic.{_↔_}
 use mathlib.Core.List.{List}
-use Prim.Native.Nat.{ℕ, _+_, _-_, _^_, _≤_, _<_}
+use Prim.Native.Nat.{ℕ, _+_, _-_, _*_, _^_, _≤_, _<_}
 use lib.ListN.{length, take}
 use Rattle.gf2.specs.Bits.{_⊕_}
 use Rattle.gf2.specs.Finite.{Mem, holds, Rising}
@@ -16,16 +16,12 @@ use Rattle.basis.specs.Short.{listed}
 use Rattle.basis.specs.Reduced.{vectorsOf}
 use Rattle.space.specs.Restriction.{values}
 use Rattle.form.specs.Form.{ValidForm, formAt}
-use Rattle.form.specs.Encoding.{encodeForm}
 use Rattle.form.specs.Decoding.{decodeForm}
 use Rattle.form.specs.Reading.{formFault, pointsAnswer, pointsAfter, rewriteAnswer, rewriteAfter}
 use Rattle.cubes.specs.Records.{maxListed}
 use Rattle.cover.specs.WrittenForm.{writtenForm}
+use Rattle.writing.specs.Writing.{writeAnswer, writeAfter}
 use Rattle.glospruma.specs.Spaces.{completeAnswer, completeRoom, analyseAnswer, analyseRoom}
-
--- The bytes of the form that is written for a table.
-abbrev pub formBytes : ℕ → List ℕ → List ℕ → List ℕ
-formBytes n on free = encodeForm (record { variables = n; products = writtenForm n on free })
 
 -- What the public calls report of a table, as lists: the on points of the completed table; the reduced basis, the masks of the equations and
 -- the points of the restriction; the bytes of the form; the points read back from those bytes; the bytes written from what was read.
@@ -42,7 +38,7 @@ pub record Reported : Type 0 where
 -- room: as much of it as the count that they return. The contracts (crates/glospruma/src/lib.rt) say that they return and leave just these.
 unfoldable pub reported : ℕ → List ℕ → List ℕ → List ℕ → List ℕ → Reported
 reported n on free room bytes =
-    let form : List ℕ = formBytes n on free in
+    let form : List ℕ = take (writeAnswer n on free bytes .length) (writeAfter n on free bytes) in
     record {
       points = take (completeAnswer n on free room .count) (completeRoom n on free room);
       basis = vectorsOf (analyseAnswer n on free room .basis);
@@ -52,6 +48,10 @@ reported n on free room bytes =
       back = take (pointsAnswer form room .count) (pointsAfter form room);
       again = take (rewriteAnswer form bytes .length) (rewriteAfter form bytes);
     }
+
+-- Bytes that are enough for every form that is written: 5 for its ends, and 62 products of a byte and at most six factors of 4 bytes.
+abbrev pub formRoom : ℕ
+formRoom = 5 + 62 * (1 + 4 * maxListed)
 
 -- The completed table at a point.
 abbrev pub isOn : Reported → ℕ → Bool
@@ -72,8 +72,8 @@ pub record FormSays (n : ℕ) (on free : List ℕ) (r : Reported) : Type 0 where
 -- Demand 2, of a table and what is reported of it.
 pub record Demand2 (n : ℕ) (on free : List ℕ) (r : Reported) : Type 0 where
   -- Every point marked on is on; every other point that is not free is off.
-  pub on : (w : ℕ) → Mem w on → isOn r w ≡ true
-  pub off : (w : ℕ) → (Mem w on → ⊥) → (Mem w free → ⊥) → isOn r w ≡ false
+  pub marked-on : (w : ℕ) → Mem w on → isOn r w ≡ true
+  pub marked-off : (w : ℕ) → (Mem w on → ⊥) → (Mem w free → ⊥) → isOn r w ≡ false
   pub points-rise : Rising (r .points)
   pub points-below : (w : ℕ) → Mem w (r .points) → w < 2 ^ n
   -- The basis is reduced, and spans exactly the vectors that can be XORed into every input without changing the output.
