@@ -1,5 +1,5 @@
 -- Demand 1 holds: one law about any call that decides by its tests, and a line for each call. Read next: Demand2.
-use mathlib.Core.Path.{_≡_, refl, sym, ap, _∙_, subst}
+use mathlib.Core.Path.{_≡_, refl, sym, ap, _∙_}
 use mathlib.Core.Bool.{false}
 use mathlib.Core.Logic.{_≢_}
 use mathlib.Core.List.{List, [], map}
@@ -7,7 +7,7 @@ use Prim.Native.Nat.{ℕ}
 use borrow.Author.Tests.{eq-eqb, ne-eqb}
 use Rattle.gf2.specs.Finite.{holds}
 use Rattle.table.specs.Refusal.{Test, firstFault, Exact}
-use Rattle.table.specs.Decision.{decide, front, roomAfter}
+use Rattle.table.specs.Decision.{decide, roomAfter}
 use Rattle.table.specs.Table.{tableTests, shared}
 use Rattle.table.proofs.Refusal.{numbered, no-fault}
 use Rattle.table.proofs.Decide.{decide-accepted, decide-refused, decide-exact}

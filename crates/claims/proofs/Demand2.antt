@@ -15,7 +15,7 @@ use Rattle.gf2.specs.Finite.{Mem, holds, Rising, In}
 use Rattle.gf2.specs.Span.{Span}
 use Rattle.gf2.specs.Basis.{Reduced}
 use Rattle.gf2.proofs.Logic.{clash}
-use Rattle.gf2.proofs.Finite.{holds-mem, select-mem, select-length, select-ext}
+use Rattle.gf2.proofs.Finite.{holds-mem, select-length, select-ext}
 use Rattle.basis.specs.Short.{listed}
 use Rattle.basis.specs.Reduced.{vectorsOf}
 use Rattle.basis.proofs.Values.{vectors-back, listed-back}
@@ -24,13 +24,13 @@ use Rattle.table.specs.Decision.{front}
 use Rattle.table.specs.Table.{tableTests, tableFault, Accepted}
 use Rattle.table.proofs.Table.{table-numbered, no-refusal, refuted}
 use Rattle.table.proofs.Refusal.{numbered}
-use Rattle.table.proofs.Decide.{table-passed, call-accepted}
+use Rattle.table.proofs.Decide.{decide-accepted, table-passed, call-accepted}
 use Rattle.records.specs.Kinds.{encodeEnd}
 use Rattle.records.specs.Walks.{layoutOf}
 use Rattle.space.specs.Closure.{closed, linearSpace, degree}
 use Rattle.space.specs.Completion.{completed, completedPoints}
 use Rattle.space.specs.Restriction.{equations as equationsOf, values}
-use Rattle.space.proofs.Closure.{closed-at, closed-of, linear-reduced, linear-span, linear-below}
+use Rattle.space.proofs.Closure.{closed-at, closed-of, linear-reduced, linear-span, linear-below, linear-ext}
 use Rattle.space.proofs.Completion.{kept-on, kept-off, completed-rising, completed-points, completed-at}
 use Rattle.space.proofs.Restriction.{restriction-at, restriction-rising, restriction-below, restriction-length, equations-length, linear-equations}
 use Rattle.form.specs.Form.{Form, ValidForm, formAt, formPoints}
@@ -39,17 +39,18 @@ use Rattle.form.specs.declared.FormPoints.{FormPoints}
 use Rattle.form.specs.declared.FormRewrite.{FormRewrite}
 use Rattle.form.specs.Encoding.{factorBody, encodeFactors, encodeProducts, encodeForm}
 use Rattle.form.specs.Decoding.{decodeForm}
-use Rattle.form.specs.Reading.{formFault, pointsOf, rewritten, pointsAnswer, pointsAfter, rewriteAnswer, rewriteAfter}
-use Rattle.form.proofs.Encodings.{decoded, encoded-form, encoded-points, encoded-again}
+use Rattle.form.specs.Reading.{formFault, pointsOf, rewritten}
+use Rattle.form.proofs.Encodings.{decoded, encoded-form}
 use Rattle.form.proofs.Answering.{points-accepted, rewrite-accepted}
 use Rattle.cubes.specs.Records.{maxListed}
 use Rattle.cover.specs.WrittenForm.{writtenForm, formSizeFault}
 use Rattle.cover.proofs.WrittenForm.{table-form-at, table-form-products, table-form-few, form-factors}
 use Rattle.writing.specs.declared.FormWritten.{FormWritten}
-use Rattle.writing.specs.Writing.{formBytes, writeTests, formTests, writeAccepted, writeRefused, writeAnswer, writeAfter}
+use Rattle.writing.specs.Writing.{formBytes, formTests, writeAccepted, writeRefused, writeAnswer, writeAfter}
+use Rattle.glospruma.specs.declared.LinearSpace.{LinearSpace}
 use Rattle.glospruma.specs.declared.Completion.{Completion}
 use Rattle.glospruma.specs.declared.Analysis.{Analysis}
-use Rattle.glospruma.specs.Spaces.{completedSpace, completedRestriction, completeAccepted, completeRefused, completeAnswer, completeRoom, analyseAccepted, analyseRefused, analyseAnswer, analyseRoom}
+use Rattle.glospruma.specs.Spaces.{linearSpaceTests, linearSpaceAccepted, linearSpaceRefused, linearSpaceAnswer, completedSpace, completedRestriction, completeAccepted, completeRefused, completeAnswer, completeRoom, analyseAccepted, analyseRefused, analyseAnswer, analyseRoom}
 use Rattle.claims.specs.Demand2.{Reported, reported, formRoom, isOn, FormSays, Demand2}
 
 -- ---- how long a form is
@@ -131,6 +132,7 @@ pub record Defined (n : ℕ) (on free : List ℕ) (r : Reported) : Type 0 where
   pub basis : r .basis ≡ completedSpace n on free
   pub equations : r .equations ≡ equationsOf n (completedSpace n on free)
   pub restriction : r .restriction ≡ completedRestriction n on free
+  pub alone : r .alone ≡ completedSpace n on free
   pub form : formSizeFault n on free ≡ false → r .form ≡ formBytes n on free
   pub back : formSizeFault n on free ≡ false → r .back ≡ pointsOf (r .form)
   pub again : formSizeFault n on free ≡ false → r .again ≡ rewritten (r .form)
@@ -159,6 +161,29 @@ module _ (n : ℕ) (on free room bytes : List ℕ) (a : Accepted n on free) (eno
       fewer : length (equationsOf n (completedSpace n on free)) ≤ n
       fewer = omega (arith, linear-equations n (completed n on free))
 
+  points : take (completeAnswer n on free room .count) (completeRoom n on free room) ≡ completedPoints n on free
+  points = handed (λ (x : Completion). x .count) (completedPoints n on free) room refl completing
+
+  -- The points of the completed table are a table without free points, with the same linear space.
+  alone : vectorsOf (linearSpaceAnswer n (completedPoints n on free) .basis) ≡ completedSpace n on free
+  unfolding tableFault
+  alone =
+      ap (λ (x : LinearSpace). vectorsOf (x .basis))
+      (decide-accepted (linearSpaceTests n (completedPoints n on free)) (linearSpaceAccepted n (completedPoints n on free)) linearSpaceRefused (no-refusal n (completedPoints n on free) [] sound))
+      ∙ vectors-back (linearSpace n (holds (completedPoints n on free)))
+      ∙ linear-ext n (holds (completedPoints n on free)) (completed n on free) (completed-at n on free)
+    where
+      sound : Accepted n (completedPoints n on free) []
+      sound = record {
+        some = a .some;
+        few = a .few;
+        on-below = λ p m. completed-points n on free p .0 m .0;
+        free-below = λ p m. absurd m;
+        on-rising = completed-rising n on free;
+        free-rising = tt;
+        apart = λ p l m. m;
+      }
+
   writing : formSizeFault n on free ≡ false → (writeAccepted n on free ≡ writeAnswer n on free bytes) × (front (formBytes n on free) bytes ≡ writeAfter n on free bytes)
   unfolding tableFault holds tableTests firstFault writeAnswer writeAfter
   writing small = call-accepted (formTests n on free) (formBytes n on free) bytes (writeAccepted n on free) writeRefused (numbered (formTests n on free) refl)
@@ -174,10 +199,11 @@ module _ (n : ℕ) (on free room bytes : List ℕ) (a : Accepted n on free) (eno
   pub reported-defined : Defined n on free (reported n on free room bytes)
   unfolding reported
   reported-defined = record {
-    points = handed (λ (x : Completion). x .count) (completedPoints n on free) room refl completing;
+    points = points;
     basis = sym (ap (λ (x : Analysis). vectorsOf (x .basis)) (analysing .0)) ∙ vectors-back (completedSpace n on free);
     equations = sym (ap (λ (x : Analysis). listed (x .equations)) (analysing .0)) ∙ listed-back (equationsOf n (completedSpace n on free));
     restriction = handed (λ (x : Analysis). x .count) (completedRestriction n on free) room refl analysing;
+    alone = ap (λ (l : List ℕ). vectorsOf (linearSpaceAnswer n l .basis)) points ∙ alone;
     form = written;
     back = λ small.
         handed (λ (x : FormPoints). x .count) (pointsOf form) room refl
@@ -242,6 +268,7 @@ module _ (n : ℕ) (on free : List ℕ) (a : Accepted n on free) (r : Reported) 
     points-below = λ w m. points-in w m .0;
     reduced = subst Reduced (sym (d .basis)) (linear-reduced n f);
     space = λ v. (λ s. closed-told v .0 (vectors-told v .0 s), λ p. vectors-told v .1 (closed-told v .1 p));
+    same-space = d .alone ∙ sym (d .basis);
     through = λ w h. ap₂ (λ (l m : List ℕ). holds l (values m w)) (d .restriction) (d .equations) ∙ restriction-at n f w h ∙ sym (on-at w h);
     restriction-rises = subst Rising (sym (d .restriction)) (restriction-rising n (linearSpace n f) f);
     restriction-below = λ y m.

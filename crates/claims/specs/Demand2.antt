@@ -21,29 +21,33 @@ use Rattle.form.specs.Reading.{formFault, pointsAnswer, pointsAfter, rewriteAns
 use Rattle.cubes.specs.Records.{maxListed}
 use Rattle.cover.specs.WrittenForm.{writtenForm}
 use Rattle.writing.specs.Writing.{writeAnswer, writeAfter}
-use Rattle.glospruma.specs.Spaces.{completeAnswer, completeRoom, analyseAnswer, analyseRoom}
+use Rattle.glospruma.specs.Spaces.{linearSpaceAnswer, completeAnswer, completeRoom, analyseAnswer, analyseRoom}
 
 -- What the public calls report of a table, as lists: the on points of the completed table; the reduced basis, the masks of the equations and
--- the points of the restriction; the bytes of the form; the points read back from those bytes; the bytes written from what was read.
+-- the points of the restriction; the basis found from those on points alone; the bytes of the form; the points read back from those bytes; the
+-- bytes written from what was read.
 pub record Reported : Type 0 where
   pub points : List ℕ
   pub basis : List ℕ
   pub equations : List ℕ
   pub restriction : List ℕ
+  pub alone : List ℕ
   pub form : List ℕ
   pub back : List ℕ
   pub again : List ℕ
 
--- The values that `complete`, `analyse`, `write_form`, `form_points` and `form_rewrite` return, and what they hand over at the front of a lent
--- room: as much of it as the count that they return. The contracts (crates/glospruma/src/lib.rt) say that they return and leave just these.
+-- The values that `complete`, `analyse`, `linear_space`, `write_form`, `form_points` and `form_rewrite` return, and what they hand over at the
+-- front of a lent room: as much of it as the count that they return. The contracts (crates/glospruma/src/lib.rt) say that they return and leave just these.
 unfoldable pub reported : ℕ → List ℕ → List ℕ → List ℕ → List ℕ → Reported
 reported n on free room bytes =
+    let points : List ℕ = take (completeAnswer n on free room .count) (completeRoom n on free room) in
     let form : List ℕ = take (writeAnswer n on free bytes .length) (writeAfter n on free bytes) in
     record {
-      points = take (completeAnswer n on free room .count) (completeRoom n on free room);
+      points = points;
       basis = vectorsOf (analyseAnswer n on free room .basis);
       equations = listed (analyseAnswer n on free room .equations);
       restriction = take (analyseAnswer n on free room .count) (analyseRoom n on free room);
+      alone = vectorsOf (linearSpaceAnswer n points .basis);
       form = form;
       back = take (pointsAnswer form room .count) (pointsAfter form room);
       again = take (rewriteAnswer form bytes .length) (rewriteAfter form bytes);
@@ -79,6 +83,7 @@ pub record Demand2 (n : ℕ) (on free : List ℕ) (r : Reported) : Type 0 where
   -- The basis is reduced, and spans exactly the vectors that can be XORed into every input without changing the output.
   pub reduced : Reduced (r .basis)
   pub space : (a : ℕ) → Span (r .basis) a ↔ ((a < 2 ^ n) × ((w : ℕ) → w < 2 ^ n → isOn r (w ⊕ a) ≡ isOn r w))
+  pub same-space : r .alone ≡ r .basis
   -- The restriction at the values of the equations is the table at the point. It rises, and has as many variables as there are equations.
   pub through : (w : ℕ) → w < 2 ^ n → holds (r .restriction) (values (r .equations) w) ≡ isOn r w
   pub restriction-rises : Rising (r .restriction)
