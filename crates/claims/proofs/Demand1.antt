@@ -15,6 +15,7 @@ use Rattle.table.proofs.Table.{refuted, shared-mem}
 use Rattle.stored.specs.Reading.{readAnswer, onAfter, freeAfter}
 use Rattle.form.specs.Reading.{pointsAnswer, pointsAfter, rewriteAnswer, rewriteAfter}
 use Rattle.cubes.specs.Listing.{answer, listingRoom}
+use Rattle.writing.specs.Writing.{writeAnswer, writeAfter}
 use Rattle.claims.specs.Demand1.{Room, Decides, Demand1}
 
 -- ---- any call that decides by its tests
@@ -43,7 +44,7 @@ module _ {A : Type 0} (numbers : List ℕ) (tests : List Test) (refusal : A → 
 -- ---- the calls
 
 pub demand1 : Demand1
-unfolding holds tableTests readAnswer onAfter freeAfter answer listingRoom pointsAnswer pointsAfter rewriteAnswer rewriteAfter
+unfolding holds tableTests readAnswer onAfter freeAfter answer listingRoom pointsAnswer pointsAfter rewriteAnswer rewriteAfter writeAnswer writeAfter
 demand1 = record {
   read-table = λ bytes on free. decides _ _ _ _ _ _ refl refl refl (λ k. refl) refl;
   linear-space = λ n on. decides _ _ _ _ _ _ refl refl refl (λ k. refl) refl;
@@ -51,6 +52,7 @@ demand1 = record {
   analyse = λ n on free lent. decides _ _ _ _ _ _ refl refl refl (λ k. refl) refl;
   affine = λ n on lent. decides _ _ _ _ _ _ refl refl refl (λ k. refl) refl;
   never-shared = λ on. refuted (shared on []) (λ e. shared-mem on [] e .2);
+  write-form = λ n on free lent. decides _ _ _ _ _ _ refl refl refl (λ k. refl) refl;
   list-primes = λ c. decides _ _ _ _ _ _ refl refl refl (λ k. refl) refl;
   form-points = λ bytes lent. decides _ _ _ _ _ _ refl refl refl (λ k. refl) refl;
   form-rewrite = λ bytes lent. decides _ _ _ _ _ _ refl refl refl (λ k. refl) refl;

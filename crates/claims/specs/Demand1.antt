@@ -19,6 +19,8 @@ use Rattle.form.specs.declared.FormRewrite.{FormRewrite}
 use Rattle.form.specs.Reading.{pointsOf, pointsTests, acceptedPoints, refusedPoints, pointsAnswer, pointsAfter, rewritten, rewriteTests, acceptedRewrite, refusedRewrite, rewriteAnswer, rewriteAfter}
 use Rattle.cubes.specs.Records.{recordsOf}
 use Rattle.cubes.specs.Listing.{Call, Answer, listing, listingTests, accepting, refusing, answer, listingRoom}
+use Rattle.writing.specs.declared.FormWritten.{FormWritten}
+use Rattle.writing.specs.Writing.{formBytes, writeTests, writeAccepted, writeRefused, writeAnswer, writeAfter}
 use Rattle.glospruma.specs.declared.LinearSpace.{LinearSpace}
 use Rattle.glospruma.specs.declared.Completion.{Completion}
 use Rattle.glospruma.specs.declared.Analysis.{Analysis}
@@ -72,6 +74,10 @@ pub record Demand1 : Type 0 where
       (room (projected n on) lent (affineRoom n on lent) ∷ [])
   -- The two calls that take on points alone have no free points, so that their test of number 4 never applies.
   pub never-shared : (on : List ℕ) → shared on [] ≡ false
+  pub write-form : (n : ℕ) (on free lent : List ℕ)
+      → Decides (1 ∷ 2 ∷ 3 ∷ 4 ∷ 5 ∷ 7 ∷ []) (writeTests n on free lent) (λ (r : FormWritten). r .refusal)
+      (writeAccepted n on free) writeRefused (writeAnswer n on free lent)
+      (room (formBytes n on free) lent (writeAfter n on free lent) ∷ [])
   -- A listing that runs short of room stops and is not refused: there is no 7.
   pub list-primes : (c : Call)
       → Decides (1 ∷ 2 ∷ 3 ∷ 4 ∷ 5 ∷ 9 ∷ []) (listingTests c) (λ (r : Answer). r .refusal)

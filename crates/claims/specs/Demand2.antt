@@ -14,6 +14,7 @@ use Rattle.gf2.specs.Span.{Span}
 use Rattle.gf2.specs.Basis.{Reduced}
 use Rattle.basis.specs.Short.{listed}
 use Rattle.basis.specs.Reduced.{vectorsOf}
+use Rattle.space.specs.Completion.{completedPoints}
 use Rattle.space.specs.Restriction.{values}
 use Rattle.form.specs.Form.{ValidForm, formAt}
 use Rattle.form.specs.Decoding.{decodeForm}
@@ -75,7 +76,8 @@ pub record FormSays (n : ℕ) (on free : List ℕ) (r : Reported) : Type 0 where
 
 -- Demand 2, of a table and what is reported of it.
 pub record Demand2 (n : ℕ) (on free : List ℕ) (r : Reported) : Type 0 where
-  -- Every point marked on is on; every other point that is not free is off.
+  -- The completed table is that of document 01, "Points and spaces". Every point marked on is on; every other point that is not free is off.
+  pub completed : r .points ≡ completedPoints n on free
   pub marked-on : (w : ℕ) → Mem w on → isOn r w ≡ true
   pub marked-off : (w : ℕ) → (Mem w on → ⊥) → (Mem w free → ⊥) → isOn r w ≡ false
   pub points-rise : Rising (r .points)
