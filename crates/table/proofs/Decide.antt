@@ -70,3 +70,18 @@ module _ {A B : Type 0} (ts : List Test) (answer room : List B) (accepted : A) (
   call-accepted h e l =
       let f = table-passed ts (roomTest answer room) h e ∙ room-enough answer room l in
       (sym (decide-accepted tests accepted refused f), sym (decide-accepted tests (front answer room) (λ r. room) f))
+
+-- The three ways out of such a call, said of the value x that it returns and of its room after it: the fault of the tests before the room's, a room
+-- that is too short, and the answer at the front of the room.
+pub record Ways {A B : Type 0} (fault : ℕ) (answer room : List B) (accepted : A) (refused : ℕ → A) (returned : A) (left : List B) : Type 0 where
+  pub faulty : (k : ℕ) → k ≡ fault → k ≢ 0 → (x : A) → x ≡ refused k → (x ≡ returned) × (room ≡ left)
+  pub short : fault ≡ 0 → length room < length answer → (x : A) → x ≡ refused roomFault → (x ≡ returned) × (room ≡ left)
+  pub whole : fault ≡ 0 → length answer ≤ length room → (x : A) (after : List B) → x ≡ accepted → after ≡ front answer room → (x ≡ returned) × (after ≡ left)
+
+pub ways : {A B : Type 0} (ts : List Test) (answer room : List B) (accepted : A) (refused : ℕ → A) → Numbered ts
+    → Ways (firstFault ts) answer room accepted refused (decide (ts ++ roomTest answer room) accepted refused) (roomAfter (ts ++ roomTest answer room) answer room)
+ways ts answer room accepted refused h = record {
+  faulty = λ k e n x q. let p = call-refused ts answer room accepted refused k e n in (q ∙ p .0, p .1);
+  short = λ e l x q. let p = call-short ts answer room accepted refused h e l in (q ∙ p .0, p .1);
+  whole = λ e l x after q r. let p = call-accepted ts answer room accepted refused h e l in (q ∙ p .0, r ∙ p .1);
+}
