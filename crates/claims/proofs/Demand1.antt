@@ -14,24 +14,26 @@ use Rattle.table.proofs.Decide.{decide-accepted, decide-refused, decide-exact}
 use Rattle.table.proofs.Table.{refuted, shared-mem}
 use Rattle.stored.specs.Reading.{readAnswer, onAfter, freeAfter}
 use Rattle.form.specs.Reading.{pointsAnswer, pointsAfter, rewriteAnswer, rewriteAfter}
+use Rattle.cubes.specs.Lists.{keep}
 use Rattle.cubes.specs.Listing.{answer, listingRoom}
 use Rattle.writing.specs.Writing.{writeAnswer, writeAfter}
-use Rattle.claims.specs.Demand1.{Room, Decides, Demand1}
+use Rattle.claims.specs.Demand1.{refusalOrder, Room, Decides, Demand1}
 
 -- ---- any call that decides by its tests
 
 module _ {A : Type 0} (numbers : List ℕ) (tests : List Test) (refusal : A → ℕ) (accepted : A) (refused : ℕ → A) (rooms : List Room)
-    (some : holds numbers 0 ≡ false) (order : map (λ t. t .number) tests ≡ numbers) (zero : refusal accepted ≡ 0) (same : (k : ℕ) → refusal (refused k) ≡ k)
+    (some : holds numbers 0 ≡ false) (tested : map (λ t. t .number) tests ≡ numbers) (order : keep (holds numbers) refusalOrder ≡ numbers) (zero : refusal accepted ≡ 0) (same : (k : ℕ) → refusal (refused k) ≡ k)
     (after : map (λ r. r .after) rooms ≡ map (λ r. roomAfter tests (r .written) (r .lent)) rooms) where
   exact : Exact tests (refusal (decide tests accepted refused))
-  exact = decide-exact refusal tests accepted refused (numbered tests (ap (λ l. holds l 0) order ∙ some)) zero same
+  exact = decide-exact refusal tests accepted refused (numbered tests (ap (λ l. holds l 0) tested ∙ some)) zero same
 
   -- The answer carries 0 exactly when no test gives a number.
   none : refusal (decide tests accepted refused) ≡ 0 → firstFault tests ≡ 0
-  none e = no-fault tests (numbered tests (ap (λ l. holds l 0) order ∙ some)) .1 (exact .accepted .0 e)
+  none e = no-fault tests (numbered tests (ap (λ l. holds l 0) tested ∙ some)) .1 (exact .accepted .0 e)
 
   pub decides : Decides numbers tests refusal accepted refused (decide tests accepted refused) rooms
   decides = record {
+    tested = tested;
     order = order;
     exact = exact;
     accepts = λ e. (decide-accepted tests accepted refused (none e), after ∙ rw (eq-eqb (firstFault tests) 0 (none e)));
@@ -44,16 +46,16 @@ module _ {A : Type 0} (numbers : List ℕ) (tests : List Test) (refusal : A → 
 -- ---- the calls
 
 pub demand1 : Demand1
-unfolding holds tableTests readAnswer onAfter freeAfter answer listingRoom pointsAnswer pointsAfter rewriteAnswer rewriteAfter writeAnswer writeAfter
+unfolding holds keep tableTests readAnswer onAfter freeAfter answer listingRoom pointsAnswer pointsAfter rewriteAnswer rewriteAfter writeAnswer writeAfter
 demand1 = record {
-  read-table = λ bytes on free. decides _ _ _ _ _ _ refl refl refl (λ k. refl) refl;
-  linear-space = λ n on. decides _ _ _ _ _ _ refl refl refl (λ k. refl) refl;
-  complete = λ n on free lent. decides _ _ _ _ _ _ refl refl refl (λ k. refl) refl;
-  analyse = λ n on free lent. decides _ _ _ _ _ _ refl refl refl (λ k. refl) refl;
-  affine = λ n on lent. decides _ _ _ _ _ _ refl refl refl (λ k. refl) refl;
+  read-table = λ bytes on free. decides _ _ _ _ _ _ refl refl refl refl (λ k. refl) refl;
+  linear-space = λ n on. decides _ _ _ _ _ _ refl refl refl refl (λ k. refl) refl;
+  complete = λ n on free lent. decides _ _ _ _ _ _ refl refl refl refl (λ k. refl) refl;
+  analyse = λ n on free lent. decides _ _ _ _ _ _ refl refl refl refl (λ k. refl) refl;
+  affine = λ n on lent. decides _ _ _ _ _ _ refl refl refl refl (λ k. refl) refl;
   never-shared = λ on. refuted (shared on []) (λ e. shared-mem on [] e .2);
-  write-form = λ n on free lent. decides _ _ _ _ _ _ refl refl refl (λ k. refl) refl;
-  list-primes = λ c. decides _ _ _ _ _ _ refl refl refl (λ k. refl) refl;
-  form-points = λ bytes lent. decides _ _ _ _ _ _ refl refl refl (λ k. refl) refl;
-  form-rewrite = λ bytes lent. decides _ _ _ _ _ _ refl refl refl (λ k. refl) refl;
+  write-form = λ n on free lent. decides _ _ _ _ _ _ refl refl refl refl (λ k. refl) refl;
+  list-primes = λ c. decides _ _ _ _ _ _ refl refl refl refl (λ k. refl) refl;
+  form-points = λ bytes lent. decides _ _ _ _ _ _ refl refl refl refl (λ k. refl) refl;
+  form-rewrite = λ bytes lent. decides _ _ _ _ _ _ refl refl refl refl (λ k. refl) refl;
 }

@@ -7,7 +7,8 @@ use mathlib.Core.Logic.{_≢_}
 use mathlib.Core.List.{List, [], _∷_, map}
 use Prim.Native.Nat.{ℕ}
 use lib.ListN.{length}
-use Rattle.table.specs.Refusal.{Test, Exact}
+use Rattle.gf2.specs.Finite.{holds}
+use Rattle.table.specs.Refusal.{Test, Exact, variablesFault, pointFault, orderFault, sharedFault, sizeFault, affineFault, roomFault, layoutFault, placeFault}
 use Rattle.table.specs.Decision.{front}
 use Rattle.table.specs.Table.{shared}
 use Rattle.stored.specs.declared.TableRead.{TableRead}
@@ -17,6 +18,7 @@ use Rattle.space.specs.Completion.{completedPoints}
 use Rattle.form.specs.declared.FormPoints.{FormPoints}
 use Rattle.form.specs.declared.FormRewrite.{FormRewrite}
 use Rattle.form.specs.Reading.{pointsOf, pointsTests, acceptedPoints, refusedPoints, pointsAnswer, pointsAfter, rewritten, rewriteTests, acceptedRewrite, refusedRewrite, rewriteAnswer, rewriteAfter}
+use Rattle.cubes.specs.Lists.{keep}
 use Rattle.cubes.specs.Records.{recordsOf}
 use Rattle.cubes.specs.Listing.{Call, Answer, listing, listingTests, accepting, refusing, answer, listingRoom}
 use Rattle.writing.specs.declared.FormWritten.{FormWritten}
@@ -30,6 +32,10 @@ use Rattle.glospruma.specs.Affine.{projected, affineTests, affineAccepted, affi
 
 -- ---- one call
 
+-- The one fixed order of all refusals (document 01, "Refusal numbers"): bytes first, the room last.
+abbrev pub refusalOrder : List ℕ
+refusalOrder = layoutFault ∷ variablesFault ∷ pointFault ∷ orderFault ∷ sharedFault ∷ affineFault ∷ sizeFault ∷ placeFault ∷ roomFault ∷ []
+
 -- A lent room: the list that an accepted call writes to it, what it held when it was lent, and what it holds as the call returns.
 pub record Room : Type 0 where
   pub written : List ℕ
@@ -39,11 +45,12 @@ pub record Room : Type 0 where
 abbrev pub room : List ℕ → List ℕ → List ℕ → Room
 room written lent after = record { written = written; lent = lent; after = after }
 
--- A call decides by its tests, which have these numbers in this order. It returned `returned`, whose refusal number `refusal` reads; an accepted
+-- A call decides by its tests, which have these numbers. It returned `returned`, whose refusal number `refusal` reads; an accepted
 -- call returns `accepted`, one refused under a number returns what `refused` has for it: that number, and 0 for every other.
 pub record Decides {A : Type 0} (numbers : List ℕ) (tests : List Test) (refusal : A → ℕ) (accepted : A) (refused : ℕ → A) (returned : A) (rooms : List Room) : Type 0 where
-  -- One fixed order.
-  pub order : map (λ t. t .number) tests ≡ numbers
+  -- The tests have these numbers, and stand in the one fixed order.
+  pub tested : map (λ t. t .number) tests ≡ numbers
+  pub order : keep (holds numbers) refusalOrder ≡ numbers
   -- Refusal r is given exactly when a test of number r applies and none before it does; 0 exactly when none applies.
   pub exact : Exact tests (refusal returned)
   -- Accepted: each room has its list at the front, and the rest of it is as lent.
