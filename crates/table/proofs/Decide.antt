@@ -19,14 +19,18 @@ decide-accepted ts a r e = rw (eq-eqb (firstFault ts) 0 e)
 pub decide-refused : {A : Type 0} (ts : List Test) (a : A) (r : ℕ → A) (k : ℕ) → k ≢ 0 → firstFault ts ≡ k → decide ts a r ≡ r k
 decide-refused ts a r k n e = rw (e, ne-eqb k 0 n)
 
--- The refusal number that an answer carries is exact.
+-- The refusal number that an answer carries is that of the first test that applies.
+pub decide-number : {A : Type 0} (number : A → ℕ) (ts : List Test) (a : A) (r : ℕ → A) → number a ≡ 0 → ((k : ℕ) → number (r k) ≡ k) → number (decide ts a r) ≡ firstFault ts
+decide-number number ts a r z s = go (ℕ-discrete (firstFault ts) 0)
+  where
+    go : Dec (firstFault ts ≡ 0) → number (decide ts a r) ≡ firstFault ts
+    go (yes e) = ap number (decide-accepted ts a r e) ∙ z ∙ sym e
+    go (no n) = ap number (decide-refused ts a r (firstFault ts) n refl) ∙ s (firstFault ts)
+
+-- So it is exact.
 pub decide-exact : {A : Type 0} (number : A → ℕ) (ts : List Test) (a : A) (r : ℕ → A) → Numbered ts → number a ≡ 0 → ((k : ℕ) → number (r k) ≡ k)
     → Exact ts (number (decide ts a r))
-decide-exact {A} number ts a r h z k = rw (given (ℕ-discrete (firstFault ts) 0)) (record { refused = fault-first ts; accepted = no-fault ts h })
-  where
-    given : Dec (firstFault ts ≡ 0) → number (decide ts a r) ≡ firstFault ts
-    given (yes e) = ap number (decide-accepted ts a r e) ∙ z ∙ sym e
-    given (no n) = ap number (decide-refused ts a r (firstFault ts) n refl) ∙ k (firstFault ts)
+decide-exact number ts a r h z s = rw (decide-number number ts a r z s) (record { refused = fault-first ts; accepted = no-fault ts h })
 
 -- ---- tests of the table first, then one of the room
 
