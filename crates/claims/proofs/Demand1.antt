@@ -1,7 +1,6 @@
 -- Demand 1 holds: one law about any call that decides by its tests, and a line for each call. Read next: Demand2.
-use mathlib.Core.Path.{_≡_, refl, sym, ap, _∙_}
+use mathlib.Core.Path.{_≡_, refl, ap, _∙_}
 use mathlib.Core.Bool.{false}
-use mathlib.Core.Logic.{_≢_}
 use mathlib.Core.List.{List, [], map}
 use Prim.Native.Nat.{ℕ}
 use borrow.Author.Tests.{eq-eqb, ne-eqb}
