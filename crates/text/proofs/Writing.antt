@@ -46,15 +46,24 @@ module _ {before : List ℕ} {at : ℕ} {first after : List ℕ} {next : ℕ} wh
 pub room-first : {before : List ℕ} {at : ℕ} (first second : List ℕ) → HasRoom before at (first ++ second) → HasRoom before at first
 room-first first second h = record { fits = omega (arith, h .fits, length-append first second) }
 
--- ---- a text of k pieces, written one at a time
-
-module _ {before : List ℕ} {at : ℕ} (piece : ℕ → List ℕ) {i k : ℕ} {after : List ℕ} {next : ℕ} where
-  pub room-piece : HasRoom before at (pieces piece k) → i < k → Wrote before at (pieces piece i) after next → HasRoom after next (piece i)
-  room-piece h less w = record { fits = omega (arith, h .fits, wrote-length w, w .place, pieces-part piece i k less, length-append (pieces piece i) (piece i)) }
-
 -- Room for a text, as an equal text.
 pub room-same : {before : List ℕ} {at : ℕ} {first second : List ℕ} → first ≡ second → HasRoom before at first → HasRoom before at second
 room-same {before} {at} e h = subst (λ (t : List ℕ). HasRoom before at t) e h
 
 pub wrote-same : {before : List ℕ} {at : ℕ} {first second after : List ℕ} {next : ℕ} → first ≡ second → Wrote before at first after next → Wrote before at second after next
 wrote-same {before} {at} {first} {second} {after} {next} e w = subst (λ (t : List ℕ). Wrote before at t after next) e w
+
+-- ---- a text of k pieces, written one at a time
+
+-- Room for the whole text is room for the next piece.
+pub room-piece : {before : List ℕ} {at : ℕ} (piece : ℕ → List ℕ) (i k : ℕ) {text after : List ℕ} {next : ℕ} → text ≡ pieces piece k → HasRoom before at text → i < k
+    → Wrote before at (pieces piece i) after next → HasRoom after next (piece i)
+room-piece piece i k e h less w =
+    record { fits = omega (arith, h .fits, ap length e, wrote-length w, w .place, pieces-part piece i k less, length-append (pieces piece i) (piece i)) }
+
+-- One piece more, and all of them.
+pub wrote-piece : {before : List ℕ} {at : ℕ} (piece : ℕ → List ℕ) (i : ℕ) {after last : List ℕ} {next end : ℕ} → Wrote before at (pieces piece i) after next → Wrote after next (piece i) last end → Wrote before at (pieces piece (i + 1)) last end
+wrote-piece piece i w v = wrote-same (ap (pieces piece) (sym (add-one i))) (wrote-both w v)
+
+pub wrote-pieces : {before : List ℕ} {at : ℕ} (piece : ℕ → List ℕ) (i k : ℕ) {text after : List ℕ} {next : ℕ} → text ≡ pieces piece k → i ≡ k → Wrote before at (pieces piece i) after next → Wrote before at text after next
+wrote-pieces piece i k e q w = wrote-same (ap (pieces piece) q ∙ sym e) w

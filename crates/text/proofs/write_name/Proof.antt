@@ -1,11 +1,8 @@
-use native.Mathlib.Omega.{arith}
+-- `text::write_name` meets its contract: the letter, then the index. Assumes nothing.
 use borrow.Author.Needs.{needs}
+use Rattle.text.proofs.Writing.{wrote-both}
 use Rattle.text.proofs.write_name.Statement.{statement}
 use Rattle.text.proofs.write_name.Tie as tie
-use Rattle.text.proofs.write_name.Reads as reads
-use Rattle.text.proofs.write_name.Lts as lts
-use Rattle.text.proofs.write_decimal.Reads as write-decimal-reads
-use Rattle.text.proofs.write_word.Reads as write-word-reads
 
 slice-aggregate-write-word : tie.Need-slice-aggregate-write-word
 slice-aggregate-write-word c = search needs
@@ -20,7 +17,7 @@ same-length : tie.Need-same-length
 same-length c = search needs
 
 returns : tie.Need-returns
-returns c = search needs
+returns c = wrote-both (c .before .before .before .before .before .before .write-word .ensures) (c .before .before .write-decimal .ensures)
 
 pub write-name-spec : {M : Type 1} → statement M
 write-name-spec =

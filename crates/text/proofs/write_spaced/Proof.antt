@@ -1,11 +1,8 @@
-use native.Mathlib.Omega.{arith}
+-- `text::write_spaced` meets its contract: the blank, then the number. Assumes nothing.
 use borrow.Author.Needs.{needs}
+use Rattle.text.proofs.Writing.{wrote-both}
 use Rattle.text.proofs.write_spaced.Statement.{statement}
 use Rattle.text.proofs.write_spaced.Tie as tie
-use Rattle.text.proofs.write_spaced.Reads as reads
-use Rattle.text.proofs.write_spaced.Lts as lts
-use Rattle.text.proofs.write_decimal.Reads as write-decimal-reads
-use Rattle.text.proofs.write_word.Reads as write-word-reads
 
 slice-aggregate-write-word : tie.Need-slice-aggregate-write-word
 slice-aggregate-write-word c = search needs
@@ -20,7 +17,7 @@ same-length : tie.Need-same-length
 same-length c = search needs
 
 returns : tie.Need-returns
-returns c = search needs
+returns c = wrote-both (c .before .before .before .before .before .before .write-word .ensures) (c .before .before .write-decimal .ensures)
 
 pub write-spaced-spec : {M : Type 1} → statement M
 write-spaced-spec =
