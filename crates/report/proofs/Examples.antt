@@ -23,8 +23,8 @@ use Rattle.cover.specs.Substitution.{substituteMask, substituteFactor, substitu
 use Rattle.cover.specs.Choice.{primesOf, covered, firstHolding, takenFor, takenThrough, chosen}
 use Rattle.cover.specs.WrittenForm.{writtenProduct, formOf, writtenForm, formSizeFault}
 use Rattle.text.specs.Decimal.{decimalIn, decimal}
-use Rattle.text.specs.Pieces.{spaced, name, namesAfter, names}
-use Rattle.lines.specs.Lines.{variablesLine, countsLine, degreeLine, numbersText, numbersLine, variablesIn, equationLine, equationLines, factorText, factorsText, productText, productLine, productLines, refusedLine}
+use Rattle.text.specs.Pieces.{spaced, names}
+use Rattle.lines.specs.Lines.{numberLine, countsLine, numbersLine, variablesText, equationLine, equationLines, factorText, productLine, productLines}
 use Rattle.report.specs.Report.{spaceText, formText, tableText, reportText}
 
 -- A stored table and its report.
@@ -98,5 +98,5 @@ examples =
     []
 
 reports : map (λ e. reportText (e .table)) examples ≡ map (λ e. e .text) examples
-unfolding examples example flatMap bit halvings lead holds all select oddIn odd reduce clear reduces irreducible reducedBasis isLead placesAt firstFault badCount outside notAbove unordered kindOf walkFrom walked recordMarks marked closed linearSpace degree allOn completed equation equations number project clean restriction keep spans pointsOf bases candidatesOf candidatesFrom candidates everyPoint somePoint cannotGrow isPrime placeFactor canonicalProduct substituteMask substituteFactor substituteProduct primesOf covered firstHolding takenFor takenThrough chosen writtenProduct formOf writtenForm formSizeFault decimalIn decimal spaced name namesAfter names variablesLine countsLine degreeLine numbersText numbersLine variablesIn equationLine equationLines factorText factorsText productText productLine productLines refusedLine spaceText formText tableText reportText
+unfolding examples example flatMap bit halvings lead holds all select oddIn odd reduce clear reduces irreducible reducedBasis isLead placesAt firstFault badCount outside notAbove unordered kindOf walkFrom walked recordMarks marked closed linearSpace degree allOn completed equation equations number project clean restriction keep spans pointsOf bases candidatesOf candidatesFrom candidates everyPoint somePoint cannotGrow isPrime placeFactor canonicalProduct substituteMask substituteFactor substituteProduct primesOf covered firstHolding takenFor takenThrough chosen writtenProduct formOf writtenForm formSizeFault decimalIn decimal spaced names numberLine countsLine numbersLine variablesText equationLine equationLines factorText productLine productLines spaceText formText tableText reportText
 reports = refl

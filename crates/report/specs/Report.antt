@@ -12,14 +12,18 @@ use Rattle.space.specs.Closure.{linearSpace}
 use Rattle.space.specs.Completion.{completed}
 use Rattle.space.specs.Restriction.{equations, restriction}
 use Rattle.cover.specs.WrittenForm.{writtenForm, formSizeFault}
-use Rattle.lines.specs.Words.{canonicalWord, restrictionWord}
-use Rattle.lines.specs.Lines.{variablesLine, countsLine, degreeLine, numbersLine, equationLines, productLines, refusedLine}
+use Rattle.lines.specs.Words.{variablesWord, degreeWord, canonicalWord, restrictionWord, refusedWord}
+use Rattle.lines.specs.Lines.{numberLine, countsLine, numbersLine, equationLines, productLines}
+
+-- `refused 5`
+abbrev pub refusedLine : ℕ → List ℕ
+refusedLine number = numberLine refusedWord number
 
 -- The lines of a complete function f of n variables whose linear space has the basis bs: degree, canonical variables by index, reduction
 -- equations y1, y2, .., restriction.
 unfoldable pub spaceText : ℕ → List ℕ → (ℕ → Bool) → List ℕ
 spaceText n bs f =
-    degreeLine (length bs)
+    numberLine degreeWord (length bs)
     ++ (numbersLine canonicalWord (variablesAt n (canonicalPlaces n bs))
     ++ (equationLines n 1 (equations n bs)
     ++ numbersLine restrictionWord (restriction n bs f)))
@@ -31,7 +35,7 @@ formText n on free = cond (formSizeFault n on free) (refusedLine sizeFault) (pro
 -- The report of a table: the on and free counts are the input's; all lines below them are the completed function's.
 unfoldable pub tableText : ℕ → List ℕ → List ℕ → List ℕ
 tableText n on free =
-    variablesLine n
+    numberLine variablesWord n
     ++ (countsLine (length on) (length free)
     ++ (spaceText n (linearSpace n (completed n on free)) (completed n on free)
     ++ formText n on free))
