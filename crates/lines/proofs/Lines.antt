@@ -5,8 +5,28 @@ use Prim.Native.Nat.{ℕ, zero, suc, _+_}
 use native.Mathlib.Omega.{arith}
 use lib.ListN.{length, getD}
 use Rattle.product.specs.Product.{Factor, factor}
+use Rattle.text.specs.Pieces.{spaced}
 use Rattle.text.proofs.Pieces.{pieces, pieces-same, pieces-front, flat-pieces}
-use Rattle.lines.specs.Lines.{equationLine, equationLines, factorText, productText}
+use Rattle.lines.specs.Words.{noneWord, oneWord}
+use Rattle.lines.specs.Lines.{numbersText, equationLine, equationLines, factorText, productText}
+
+-- An empty list prints as `-`, any other as its numbers.
+pub numbers-none : (ps : List ℕ) → length ps ≡ 0 → noneWord ≡ numbersText ps
+numbers-none [] e = refl
+numbers-none (p ∷ ps) e = absurd (omega arith)
+
+pub numbers-some : (ps : List ℕ) → (length ps ≡ 0 → ⊥) → spaced ps ≡ numbersText ps
+numbers-some [] e = absurd (e refl)
+numbers-some (p ∷ ps) e = refl
+
+-- A product without factors prints as `1`, any other as its factors.
+pub factors-none : (n : ℕ) (fs : List Factor) → length fs ≡ 0 → oneWord ≡ productText n fs
+factors-none n [] e = refl
+factors-none n (f ∷ fs) e = absurd (omega arith)
+
+pub factors-some : (n : ℕ) (fs : List Factor) → (length fs ≡ 0 → ⊥) → flatMap (factorText n) fs ≡ productText n fs
+factors-some n [] e = absurd (e refl)
+factors-some n (f ∷ fs) e = refl
 
 pub equation-pieces : (n index : ℕ) (masks : List ℕ) → equationLines n index masks ≡ pieces (λ i. equationLine n (index + i) (getD masks i 0)) (length masks)
 unfolding equationLines
