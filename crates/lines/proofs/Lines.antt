@@ -35,7 +35,7 @@ equation-pieces n index (mask ∷ masks) =
     let first : index + 0 ≡ index = omega arith in
     ap (λ (r : List ℕ). equationLine n index mask ++ r)
     (equation-pieces n (index + 1) masks
-      ∙ pieces-same (λ i. equationLine n (index + 1 + i) (getD masks i 0)) (λ i. equationLine n (index + suc i) (getD masks i 0)) (length masks) (λ i. later i))
+    ∙ pieces-same (λ i. equationLine n (index + 1 + i) (getD masks i 0)) (λ i. equationLine n (index + suc i) (getD masks i 0)) (length masks) (λ i. later i))
     ∙ ap (λ (k : ℕ). equationLine n k mask ++ pieces (λ i. equationLine n (index + suc i) (getD masks i 0)) (length masks)) (sym first)
     ∙ sym (pieces-front (λ i. equationLine n (index + i) (getD (mask ∷ masks) i 0)) (length masks))
   where
@@ -67,4 +67,4 @@ factors-pieces n cs ms e =
     flat-pieces (factorText n) (factor 0 0) (zipWith factor cs ms)
     ∙ ap (pieces (λ i. factorText n (getD (zipWith factor cs ms) i (factor 0 0)))) (zip-length cs ms e)
     ∙ pieces-same (λ i. factorText n (getD (zipWith factor cs ms) i (factor 0 0))) (λ i. factorText n (factor (getD cs i 0) (getD ms i 0))) (length ms)
-      (λ i. ap (factorText n) (zip-at cs ms e i))
+    (λ i. ap (factorText n) (zip-at cs ms e i))

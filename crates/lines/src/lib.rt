@@ -103,13 +103,7 @@ fn factor_text(room: &mut [u8], at: usize, n: usize, constant: u16, mask: u16) -
 }
 
 // The factors in their order, one for each constant and mask.
-fn factors_text(
-    room: &mut [u8],
-    at: usize,
-    n: usize,
-    constants: &[u16],
-    masks: &[u16],
-) -> usize
+fn factors_text(room: &mut [u8], at: usize, n: usize, constants: &[u16], masks: &[u16]) -> usize
     requires { ⌜ n ≤ maxVariables ⌝ }
     requires { ⌜ length (now constants) ≡ length (now masks) ⌝ }
     requires { ⌜ HasRoom (now room) at (flatMap (factorText n) (zipWith factor (now constants) (now masks))) ⌝ }
@@ -125,13 +119,7 @@ fn factors_text(
 }
 
 // The factors, or `1` for none.
-fn product_text(
-    room: &mut [u8],
-    at: usize,
-    n: usize,
-    constants: &[u16],
-    masks: &[u16],
-) -> usize
+fn product_text(room: &mut [u8], at: usize, n: usize, constants: &[u16], masks: &[u16]) -> usize
     requires { ⌜ n ≤ maxVariables ⌝ }
     requires { ⌜ length (now constants) ≡ length (now masks) ⌝ }
     requires { ⌜ HasRoom (now room) at (productText n (zipWith factor (now constants) (now masks))) ⌝ }
@@ -144,13 +132,7 @@ fn product_text(
 }
 
 // One product, by the constants and the masks of its factors.
-pub fn product_line(
-    room: &mut [u8],
-    at: usize,
-    n: usize,
-    constants: &[u16],
-    masks: &[u16],
-) -> usize
+pub fn product_line(room: &mut [u8], at: usize, n: usize, constants: &[u16], masks: &[u16]) -> usize
     requires { ⌜ n ≤ maxVariables ⌝ }
     requires { ⌜ length (now constants) ≡ length (now masks) ⌝ }
     requires { ⌜ HasRoom (now room) at (productLine n (zipWith factor (now constants) (now masks))) ⌝ }

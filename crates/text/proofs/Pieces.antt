@@ -56,5 +56,5 @@ names-pieces between [] = refl
 names-pieces between (index ∷ rest) =
     ap (λ (r : List ℕ). name index ++ r) (flat-pieces (λ other. between ++ name other) 0 rest)
     ∙ ap (λ (r : List ℕ). name index ++ r)
-      (pieces-same (λ i. between ++ name (getD rest i 0)) (λ i. nextName between (index ∷ rest) (suc i)) (length rest) (λ i. rw (ne-eqb (suc i) 0 (λ q. omega arith))))
+    (pieces-same (λ i. between ++ name (getD rest i 0)) (λ i. nextName between (index ∷ rest) (suc i)) (length rest) (λ i. rw (ne-eqb (suc i) 0 (λ q. omega arith))))
     ∙ sym (pieces-front (nextName between (index ∷ rest)) (length rest))

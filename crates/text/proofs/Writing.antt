@@ -35,7 +35,7 @@ module _ {before : List ℕ} {at : ℕ} {first after : List ℕ} {next : ℕ} wh
   pub wrote-both : {second last : List ℕ} {end : ℕ} → Wrote before at first after next → Wrote after next second last end → Wrote before at (first ++ second) last end
   wrote-both {second} {last} {end} w v = record {
     bytes = v .bytes ∙ ap (λ (b : List ℕ). sets b next second) (w .bytes) ∙ ap (λ (k : ℕ). sets (sets before at first) k second) (w .place)
-      ∙ sym (sets-append before at first second);
+        ∙ sym (sets-append before at first second);
     place = omega (arith, w .place, v .place, length-append first second);
   }
 
