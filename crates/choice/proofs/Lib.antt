@@ -1,0 +1,1 @@
+-- Laws about the definitions in specs/; read in this order.
