@@ -3,8 +3,9 @@
 // of their results in specs/, the laws about that in proofs/.
 use table::MAX_POINTS;
 ghost use mathlib.Core.Path.{_≡_};
-ghost use mathlib.Core.Bool.{false};
+ghost use mathlib.Core.Bool.{false, _&&_};
 ghost use Prim.Native.Nat.{_≤_, _<_};
+ghost use lib.Dec.{leb};
 ghost use Rattle.gf2.specs.Finite.{Mem};
 ghost use Rattle.gf2.specs.Basis.{clear, reduce};
 ghost use Rattle.table.specs.Table.{outside, unordered};
@@ -57,6 +58,13 @@ pub struct Found {
     pub entry: u64,
 }
 
+// Whether the best so far stays before a candidate with this least point: it was found, and its own least point isn't greater.
+fn stays(any: bool, own: u64, point: u64) -> bool
+    ensures { λ r. ⌜ r ≡ (any && leb own point) ⌝ }
+{
+    any && own <= point
+}
+
 // The best so far, or what an entry has in its place: of its space only the coset of x holds x, and on equal least points the earlier entry stays.
 fn better(best: Found, on: u64, m: usize, d: usize, x: u64, entry: u64) -> Found
     requires { ⌜ Search m on d x ⌝ }
@@ -67,7 +75,7 @@ fn better(best: Found, on: u64, m: usize, d: usize, x: u64, entry: u64) -> Found
         return best;
     }
     let point = least_point(d, x, entry);
-    if best.any && best.point <= point {
+    if stays(best.any, best.point, point) {
         return best;
     }
     if !masks::is_prime(on, 0, m, d, point, entry) {

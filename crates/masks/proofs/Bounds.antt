@@ -40,11 +40,17 @@ pub takes-not : (n p e : ℕ) → 2 ^ n ≤ maskOf e → false ≡ takesPoint n 
 unfolding takesPoint
 takes-not n p e h = rw (le-ltb (maskOf e) (2 ^ n) h)
 
--- The entry at a place between the bounds of a degree is one of that degree.
-pub entry-mem : (d i : ℕ) → d ≤ 6 → start d ≤ i → i < stop d → Mem (getD entries i 0) (entriesOf d)
+-- The entries of d vectors, by their place in the table.
+pub entries-count : (d : ℕ) → d ≤ 6 → length (entriesOf d) ≡ stop d - start d
 unfolding entriesOf
-entry-mem d i h k l =
+entries-count d h = length-slice (start d) (stop d) entries (omega (arith, bounds d h .1, entries-length))
+
+pub entry-at : (d i : ℕ) → start d ≤ i → i < stop d → getD (entriesOf d) (i - start d) 0 ≡ getD entries i 0
+unfolding entriesOf
+entry-at d i k l =
     let q : start d + (i - start d) ≡ i = omega arith in
-    subst (λ (z : ℕ). Mem z (entriesOf d))
-    (getD-drop (start d) (take (stop d) entries) (i - start d) 0 ∙ ap (λ (j : ℕ). getD (take (stop d) entries) j 0) q ∙ getD-take (stop d) entries i 0 l)
-    (getD-mem (entriesOf d) (i - start d) 0 (omega (arith, length-slice (start d) (stop d) entries (omega (arith, bounds d h .1, entries-length)))))
+    getD-drop (start d) (take (stop d) entries) (i - start d) 0 ∙ ap (λ (j : ℕ). getD (take (stop d) entries) j 0) q ∙ getD-take (stop d) entries i 0 l
+
+pub entry-mem : (d i : ℕ) → d ≤ 6 → start d ≤ i → i < stop d → Mem (getD entries i 0) (entriesOf d)
+entry-mem d i h k l =
+    subst (λ (z : ℕ). Mem z (entriesOf d)) (entry-at d i k l) (getD-mem (entriesOf d) (i - start d) 0 (omega (arith, entries-count d h)))

@@ -23,7 +23,7 @@ use Rattle.masks.proofs.Bits.{bit-or}
 
 -- ---- the vectors of an entry one after the other
 
-vectors-step : (l e : ℕ) → 0 < l → vectorsOf l e ≡ e % 256 ∷ vectorsOf (l - 1) (e / 256)
+pub vectors-step : (l e : ℕ) → 0 < l → vectorsOf l e ≡ e % 256 ∷ vectorsOf (l - 1) (e / 256)
 unfolding vectorsOf
 vectors-step zero e h = absurd (omega arith)
 vectors-step (suc l) e h = let q : suc l - 1 ≡ l = omega arith in rw q
