@@ -1,7 +1,5 @@
 // The table of reduced bases of six variables. What its numbers are is in specs/Bases.antt, and that they are right in proofs/Table.antt.
 ghost use mathlib.Core.Path.{_≡_};
-ghost use Prim.Native.Nat.{_<_};
-ghost use lib.ListN.{getD};
 ghost use Rattle.bases.specs.Entries.{entries};
 
 // The entries, as `entries` has them.
@@ -2832,14 +2830,6 @@ const ENTRIES: [u64; 2825] = [
     9007199254741055,
     0,
 ];
-
-// The entry at place i of the table.
-pub fn entry(i: usize) -> u64
-    requires { ⌜ i < 2825 ⌝ }
-    ensures { λ r. ⌜ r ≡ getD entries i 0 ⌝ }
-{
-    ENTRIES[i]
-}
 
 // The whole table, for a loop over its entries.
 pub fn table() -> [u64; 2825]

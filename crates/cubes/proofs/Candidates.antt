@@ -93,7 +93,7 @@ candidate-of n p bs r h l e = record {
   below = λ x s. subst (λ (z : ℕ). z < 2 ^ n) (xor-cancel x p) (xor-lt n (x ⊕ p) p (span-below n bs h (x ⊕ p) s) l);
 }
 
-degree-sound : (n d : ℕ) (c : Candidate) → Mem c (candidatesOf n d) → IsCandidate n c × (degree c ≡ d)
+pub degree-sound : (n d : ℕ) (c : Candidate) → Mem c (candidatesOf n d) → IsCandidate n c × (degree c ≡ d)
 unfolding candidatesOf
 degree-sound n d c m =
     let v = flatMap-mem (candidatesAt n d) (points n) c m in
@@ -103,7 +103,7 @@ degree-sound n d c m =
     let f = basis-is n d (w .0) .0 (k .0) in
     rw (w .2) (candidate-of n p (w .0) (f .0) (f .2) (select-mem (λ p. true) (2 ^ n) p (v .1) .0) (eqb-true (reduce (w .0) p) p (k .1)), f .1)
 
-degree-complete : (n : ℕ) (c : Candidate) → IsCandidate n c → Mem c (candidatesOf n (degree c))
+pub degree-complete : (n : ℕ) (c : Candidate) → IsCandidate n c → Mem c (candidatesOf n (degree c))
 unfolding candidatesOf
 degree-complete n c k =
     mem-flatMap (candidatesAt n (degree c)) (points n) (c .point) c (mem-select (λ p. true) (2 ^ n) (c .point) (point-below n c k) refl)
@@ -181,7 +181,7 @@ degree-earlier n d = ordered-flatMap _<_ Earlier (candidatesAt n d)
     (ordered-keep Lexicographic (λ bs. eqb (reduce bs p) p) (bases d (vectors n)) (bases-ordered d (vectors n) (vectors-rising n))))
     (λ p q h x y m k. inl (omega (arith, point-at n d p x m, point-at n d q y k))) (points n) (select-rising (λ p. true) (2 ^ n))
 
-degree-ordered : (n d : ℕ) → Ordered Before (candidatesOf n d)
+pub degree-ordered : (n d : ℕ) → Ordered Before (candidatesOf n d)
 degree-ordered n d = ordered-with Earlier Before (candidatesOf n d) (λ a b x y h. inr (degree-sound n d a x .1 ∙ sym (degree-sound n d b y .1), h)) (degree-earlier n d)
 
 from-ordered : (n d : ℕ) → Ordered Before (candidatesFrom n d)

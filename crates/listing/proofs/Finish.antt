@@ -22,8 +22,8 @@ use Rattle.cubes.proofs.Lists.{mem-append, keep-mem, take-mem}
 use Rattle.cubes.proofs.Listing.{records-length, answer-on, answer-off, room-on, room-off, call-listed, accepted-place}
 use Rattle.counts.proofs.Counts.{count-at}
 use Rattle.listing.specs.declared.Start.{Start}
-use Rattle.listing.specs.Points.{MaskOf, primeBy}
-use Rattle.listing.specs.Entry.{StartsAt}
+use Rattle.masks.specs.Points.{MaskOf, primeBy}
+use Rattle.listing.specs.Places.{StartsAt}
 use Rattle.listing.specs.Walk.{starting, State, state, walk}
 use Rattle.listing.specs.Answers.{callOf}
 use Rattle.listing.proofs.Ends.{EndsAs, walk-is}

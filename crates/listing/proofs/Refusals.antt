@@ -17,7 +17,7 @@ use Rattle.cubes.specs.Records.{maxListed}
 use Rattle.cubes.specs.Listing.{listingFault}
 use Rattle.cubes.specs.Listing as call
 use Rattle.cubes.proofs.Listing.{accepted-small}
-use Rattle.listing.specs.Points.{MaskOf, OfPoints}
+use Rattle.masks.specs.Points.{MaskOf, OfPoints}
 use Rattle.listing.specs.Answers.{callOf}
 
 module _ (n : ℕ) (on free : List ℕ) (place allowance : ℕ) (room : List ℕ) where

@@ -11,15 +11,18 @@ use lib.ListN.{length, getD, drop, length-append, List·getD-append, drop-of-len
 use lib.Seq.{drop-cons, slice-empty, getD-append-seam}
 use Rattle.gf2.specs.Finite.{Mem, select}
 use Rattle.cubes.specs.Lists.{keep}
+use Rattle.cubes.specs.Cubes.{Candidate}
 use Rattle.cubes.specs.Candidates.{points, candidatesAt, candidatesOf, candidatesFrom}
 use Rattle.bases.specs.Entries.{entries}
 use Rattle.bases.specs.Bases.{start, stop, entriesOf, takesPoint}
 use Rattle.bases.proofs.Table.{entries-at}
 use Rattle.listing.specs.declared.Tally.{Tally}
-use Rattle.listing.specs.Points.{primeBy}
-use Rattle.listing.specs.Entry.{candidateAt, EntryAt, takenFrom, FirstTaken, lower, ahead}
+use Rattle.masks.specs.Points.{primeBy}
+use Rattle.masks.specs.Entry.{candidateAt, EntryAt}
+use Rattle.masks.proofs.Bounds.{bounds, entry-mem}
+use Rattle.listing.specs.Places.{takenFrom, FirstTaken}
 use Rattle.listing.specs.Walk.{State, state, pass, walk}
-use Rattle.listing.proofs.Rows.{bounds, taken-cons, entry-mem}
+use Rattle.listing.proofs.Rows.{taken-cons}
 use Rattle.listing.proofs.Steps.{Kept, pass-kept, walk-on, walk-stop}
 
 -- ---- the points
@@ -42,6 +45,15 @@ points-cons : (n p : ℕ) → p < 2 ^ n → drop p (points n) ≡ p ∷ drop (su
 points-cons n p h = drop-cons (points n) p 0 (omega (arith, points-length (2 ^ n))) ∙ ap (λ (z : ℕ). z ∷ drop (suc p) (points n)) (point-at (2 ^ n) p h)
 
 -- ---- what is ahead
+
+-- The candidates of less than degree d.
+unfoldable pub lower : ℕ → ℕ → List Candidate
+lower n zero = []
+lower n (suc d) = candidatesFrom n d
+
+-- The candidates from the entry at place i, with point p and degree d, on.
+unfoldable pub ahead : ℕ → ℕ → ℕ → ℕ → List Candidate
+ahead n d p i = map (candidateAt d p) (takenFrom n d p i) ++ (flatMap (candidatesAt n d) (drop (suc p) (points n)) ++ lower n d)
 
 ahead-from : (n d p : ℕ) → n ≤ 6 → d ≤ 6 → p < 2 ^ n → flatMap (candidatesAt n d) (drop p (points n)) ++ lower n d ≡ ahead n d p (start d)
 unfolding ahead flatMap entriesOf

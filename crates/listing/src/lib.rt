@@ -1,7 +1,5 @@
 // The listing of primes (document 01, "Primes"): one walk over degree, least point and entry of the table of bases. What the listing is, is
 // said in crate `cubes`; what the functions say of their results in specs/, the laws about that in proofs/.
-mod points;
-
 ghost use mathlib.Core.Path.{_≡_};
 ghost use mathlib.Core.Bool.{false};
 ghost use mathlib.Core.List.{[], _∷_};
@@ -12,52 +10,20 @@ ghost use Rattle.cubes.specs.Candidates.{candidatesOf, candidatesFrom, candidat
 ghost use Rattle.cubes.specs.Records.{maxListed, recordLength};
 ghost use Rattle.cubes.specs.Listing.{listingFault, answer, listingRoom};
 ghost use Rattle.bases.specs.Entries.{entries};
-ghost use Rattle.bases.specs.Bases.{start, stop, vectorsOf, takesPoint};
-ghost use Rattle.listing.specs.Points.{OfPoints, primeBy};
-ghost use Rattle.listing.specs.Entry.{candidateAt, EntryAt, FirstTaken, StartsAt};
+ghost use Rattle.bases.specs.Bases.{stop, vectorsOf};
+ghost use Rattle.masks.specs.Points.{OfPoints, primeBy};
+ghost use Rattle.masks.specs.Entry.{candidateAt, EntryAt};
+ghost use Rattle.listing.specs.Places.{FirstTaken, StartsAt};
 ghost use Rattle.listing.specs.Walk.{starting, skipping, passing, writing, stopping, state, pass, walk};
 ghost use Rattle.listing.specs.Answers.{callOf, numbersOf};
+use masks::MAX_LISTED;
 use table::PLACE_FAULT;
 use table::SIZE_FAULT;
-
-// The largest number of variables of a listing, as `maxListed`.
-pub const MAX_LISTED: usize = 6;
 
 // The number of bytes of a record, as `recordLength`.
 pub const RECORD_LENGTH: usize = 8;
 
-// ---- the table of bases
-
-// Where the entries of d vectors begin and end in the table of bases.
-const STARTS: [usize; 7] = [2824, 2761, 2110, 715, 64, 1, 0];
-
-const STOPS: [usize; 7] = [2825, 2824, 2761, 2110, 715, 64, 1];
-
-fn start_of(d: usize) -> usize
-    requires { ⌜ d ≤ maxListed ⌝ }
-    ensures { λ r. ⌜ r ≡ start d ⌝ }
-{
-    STARTS[d]
-}
-
-fn stop_of(d: usize) -> usize
-    requires { ⌜ d ≤ maxListed ⌝ }
-    ensures { λ r. ⌜ r ≡ stop d ⌝ }
-{
-    STOPS[d]
-}
-
-// Whether the entry is a basis of n variables of which p is a least point: its lead bits stand above its sixth byte.
-fn taken(n: usize, p: u64, entry: u64) -> bool
-    requires { ⌜ n ≤ maxListed ⌝ }
-    ensures { λ r. ⌜ r ≡ takesPoint n p entry ⌝ }
-{
-    let mask = entry >> 48;
-    if mask < (1 << n) {
-        return p & mask == 0;
-    }
-    false
-}
+// ---- the entries of the table of bases
 
 // The first place from i on whose entry is taken with p, or the end of the entries of d vectors.
 fn first_taken(table: &[u64; 2825], n: usize, d: usize, p: u64, i: usize) -> usize
@@ -67,10 +33,10 @@ fn first_taken(table: &[u64; 2825], n: usize, d: usize, p: u64, i: usize) -> usi
     requires { ⌜ i ≤ stop d ⌝ }
     ensures { λ r. ⌜ FirstTaken n d p i r ⌝ }
 {
-    let end = stop_of(d);
+    let end = masks::stop_of(d);
     let mut at = i;
     while at < end {
-        if taken(n, p, table[at]) {
+        if masks::taken(n, p, table[at]) {
             return at;
         }
         at += 1;
@@ -79,24 +45,6 @@ fn first_taken(table: &[u64; 2825], n: usize, d: usize, p: u64, i: usize) -> usi
 }
 
 // ---- one candidate
-
-// Whether the candidate of an entry is a prime: its coset lies inside on plus free, is the only one of its space that does, and holds an on point.
-fn is_prime(on: u64, free: u64, n: usize, d: usize, p: u64, entry: u64) -> bool
-    requires { ⌜ OfPoints n on ⌝ }
-    requires { ⌜ OfPoints n free ⌝ }
-    requires { ⌜ EntryAt n d p entry ⌝ }
-    ensures { λ r. ⌜ r ≡ primeBy n on free (candidateAt d p entry) ⌝ }
-{
-    let inside = points::every_point(on | free, entry, d);
-    if (inside >> p) % 2 == 0 {
-        return false;
-    }
-    if u64::count_ones(inside) != (1 << d) {
-        return false;
-    }
-    let held = points::some_point(on, entry, d);
-    (held >> p) % 2 == 1
-}
 
 // The record after the first k records of the room.
 fn put(room: &mut [u8], k: usize, d: usize, p: u64, entry: u64)
@@ -197,7 +145,7 @@ fn pass(
     if tally.left == 0 {
         return tally.stopping();
     }
-    if !is_prime(on, free, n, d, p, entry) {
+    if !masks::is_prime(on, free, n, d, p, entry) {
         return tally.passing();
     }
     let written = tally.written;
@@ -235,10 +183,10 @@ fn walk(
     };
     let mut d = degree;
     let mut p: u64 = 0;
-    let mut i = start_of(d);
+    let mut i = masks::start_of(d);
     loop {
         let at = first_taken(&table, n, d, p, i);
-        if at < stop_of(d) {
+        if at < masks::stop_of(d) {
             let entry = table[at];
             tally = pass(on, free, n, d, p, entry, tally, &mut *room);
             if tally.stopped {
@@ -249,7 +197,7 @@ fn walk(
         }
         p += 1;
         if p < (1 << n) {
-            i = start_of(d);
+            i = masks::start_of(d);
             continue;
         }
         if d == 0 {
@@ -257,7 +205,7 @@ fn walk(
         }
         d -= 1;
         p = 0;
-        i = start_of(d);
+        i = masks::start_of(d);
     }
 }
 
@@ -405,8 +353,8 @@ pub fn list_primes(
             records: 0,
         };
     }
-    let on_mask = points::mask_of(on);
-    let free_mask = points::mask_of(free);
+    let on_mask = masks::points::mask_of(on);
+    let free_mask = masks::points::mask_of(free);
     let start = start_at(n, place);
     let tally = walk(
         on_mask,

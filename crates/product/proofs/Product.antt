@@ -141,13 +141,13 @@ canonical-separate (f ∷ fs) = (
 )
 
 -- In terms of places: of two factors the one at the lower place stands first.
-ordered-at : {A : Type 0} (R : A → A → Type 0) (l : List A) (d : A) → Ordered R l → (i j : ℕ) → i < j → j < length l → R (getD l i d) (getD l j d)
+pub ordered-at : {A : Type 0} (R : A → A → Type 0) (l : List A) (d : A) → Ordered R l → (i j : ℕ) → i < j → j < length l → R (getD l i d) (getD l j d)
 ordered-at R [] d o i j h k = absurd (omega arith)
 ordered-at R (a ∷ l) d o i zero h k = absurd (omega arith)
 ordered-at R (a ∷ l) d o zero (suc j) h k = o .0 (getD l j d) (getD-mem l j d (le-of-suc-le-suc k))
 ordered-at R (a ∷ l) d o (suc i) (suc j) h k = ordered-at R l d (o .1) i j (le-of-suc-le-suc h) (le-of-suc-le-suc k)
 
-mem-at : {A : Type 0} (l : List A) (d x : A) → Mem x l → (i : ℕ) × (i < length l) × (x ≡ getD l i d)
+pub mem-at : {A : Type 0} (l : List A) (d x : A) → Mem x l → (i : ℕ) × (i < length l) × (x ≡ getD l i d)
 mem-at (a ∷ l) d x (inl e) = (0, zero-lt-suc (length l), e)
 mem-at (a ∷ l) d x (inr m) = let k = mem-at l d x m in (suc (k .0), omega (arith, k .1), k .2)
 

@@ -6,8 +6,9 @@ use lib.ListN.{getD}
 use borrow.Author.Needs.{needs}
 use Rattle.bases.specs.Entries.{entries}
 use Rattle.bases.specs.Bases.{takesPoint}
-use Rattle.listing.specs.Entry.{takenFrom}
-use Rattle.listing.proofs.Rows.{bounds, taken-next}
+use Rattle.masks.proofs.Bounds.{bounds}
+use Rattle.listing.specs.Places.{takenFrom}
+use Rattle.listing.proofs.Rows.{taken-next}
 use Rattle.listing.proofs.first_taken.Statement.{statement}
 use Rattle.listing.proofs.first_taken.Tie as tie
 

@@ -13,10 +13,10 @@ use denote.Ref.{now}
 use Rattle.cubes.specs.Records.{recordLength}
 use Rattle.bases.specs.Bases.{vectorsOf}
 use Rattle.listing.specs.declared.Tally.{Tally}
-use Rattle.listing.specs.Points.{primeBy}
-use Rattle.listing.specs.Entry.{candidateAt}
+use Rattle.masks.specs.Points.{primeBy}
+use Rattle.masks.specs.Entry.{candidateAt}
 use Rattle.listing.specs.Walk.{state}
-use Rattle.listing.proofs.PrimeTest.{entry-record}
+use Rattle.masks.proofs.PrimeTest.{entry-record}
 use Rattle.listing.proofs.Steps.{pass-skip, pass-spent, pass-off, pass-full, pass-write}
 use Rattle.listing.proofs.pass.Statement.{statement}
 use Rattle.listing.proofs.pass.Tie as tie

@@ -11,8 +11,8 @@ use denote.Ref.{now}
 use Rattle.cubes.specs.Candidates.{candidatesFrom}
 use Rattle.bases.specs.Entries.{entries}
 use Rattle.bases.specs.Bases.{stop}
-use Rattle.listing.specs.Points.{primeBy}
-use Rattle.listing.specs.Entry.{FirstTaken}
+use Rattle.masks.specs.Points.{primeBy}
+use Rattle.listing.specs.Places.{FirstTaken}
 use Rattle.listing.specs.Walk.{starting, state, walk}
 use Rattle.listing.proofs.Stand.{Stand, stand-start, six, last, small, entry-stands, passed-kept, to-entry, at-stop, to-point, at-end, to-degree}
 use Rattle.listing.proofs.walk.Statement.{statement}
