@@ -12,6 +12,7 @@ use Rattle.table.proofs.Refusal.{numbered, fault-first, no-fault}
 use Rattle.table.proofs.Decide.{decide-accepted, decide-refused, decide-number}
 use Rattle.table.proofs.Table.{refuted, shared-mem}
 use Rattle.stored.specs.declared.TableRead.{TableRead}
+use Rattle.stored.specs.Stored.{storedFault}
 use Rattle.stored.specs.Reading.{readAnswer, onAfter, freeAfter}
 use Rattle.form.specs.declared.FormPoints.{FormPoints}
 use Rattle.form.specs.declared.FormRewrite.{FormRewrite}
@@ -20,6 +21,7 @@ use Rattle.cubes.specs.Lists.{keep}
 use Rattle.cubes.specs.Listing.{Answer, answer, listingRoom}
 use Rattle.writing.specs.declared.FormWritten.{FormWritten}
 use Rattle.writing.specs.Writing.{writeAnswer, writeAfter}
+use Rattle.report.specs.Report.{reportText}
 use Rattle.glospruma.specs.declared.LinearSpace.{LinearSpace}
 use Rattle.glospruma.specs.declared.Completion.{Completion}
 use Rattle.glospruma.specs.declared.Analysis.{Analysis}
@@ -49,7 +51,7 @@ module _ {A : Type 0} (numbers : List ℕ) (tests : List Test) (accepted : A) (r
 -- ---- the calls
 
 pub demand1 : Demand1
-unfolding holds keep tableTests readAnswer onAfter freeAfter answer listingRoom pointsAnswer pointsAfter rewriteAnswer rewriteAfter writeAnswer writeAfter
+unfolding holds keep tableTests readAnswer onAfter freeAfter answer listingRoom pointsAnswer pointsAfter rewriteAnswer rewriteAfter writeAnswer writeAfter storedFault reportText
 demand1 = record {
   read-table = λ bytes on free. carries _ _ _ _ _ refl refl refl refl (λ (r : TableRead). r .refusal) refl (λ k. refl);
   linear-space = λ n on. carries _ _ _ _ _ refl refl refl refl (λ (r : LinearSpace). r .refusal) refl (λ k. refl);
@@ -60,5 +62,6 @@ demand1 = record {
   write-form = λ n on free lent. carries _ _ _ _ _ refl refl refl refl (λ (r : FormWritten). r .refusal) refl (λ k. refl);
   list-primes = λ c. carries _ _ _ _ _ refl refl refl refl (λ (r : Answer). r .refusal) refl (λ k. refl);
   form-points = λ bytes lent. carries _ _ _ _ _ refl refl refl refl (λ (r : FormPoints). r .refusal) refl (λ k. refl);
+  report = λ bytes. decides _ _ _ _ _ refl refl refl refl;
   form-rewrite = λ bytes lent. carries _ _ _ _ _ refl refl refl refl (λ (r : FormRewrite). r .refusal) refl (λ k. refl);
 }

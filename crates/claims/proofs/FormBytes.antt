@@ -19,7 +19,7 @@ use Rattle.space.specs.Completion.{completed, completedPoints}
 use Rattle.space.proofs.Closure.{linear-reduced, linear-span}
 use Rattle.form.specs.Form.{Form, ValidForm, formAt, formPoints}
 use Rattle.product.specs.Product.{Factor}
-use Rattle.form.specs.Encoding.{factorBody, encodeFactors, encodeProducts, encodeForm}
+use Rattle.form.specs.Encoding.{encodeFactors, encodeProducts, encodeForm}
 use Rattle.form.specs.Decoding.{decodeForm}
 use Rattle.form.specs.Reading.{formFault, pointsOf, rewritten}
 use Rattle.form.proofs.Encodings.{decoded, encoded-form}
@@ -27,14 +27,10 @@ use Rattle.cubes.specs.Records.{maxListed}
 use Rattle.cover.specs.WrittenForm.{writtenForm, formSizeFault}
 use Rattle.cover.proofs.WrittenForm.{table-form-at, table-form-products, table-form-few, form-factors}
 use Rattle.writing.specs.Writing.{formBytes}
+use Rattle.writing.proofs.Bytes.{factors-length}
 use Rattle.claims.specs.Demand2.{formRoom}
 
 -- ---- how long a form is
-
-factors-length : (fs : List Factor) → length (encodeFactors fs) ≡ 4 * length fs
-unfolding encodeFactors
-factors-length [] = refl
-factors-length (f ∷ fs) = omega (arith, length-append (factorBody f) (encodeFactors fs), factors-length fs)
 
 products-length : (ps : List (List Factor)) → ((p : List Factor) → Mem p ps → length p ≤ maxListed) → length (encodeProducts ps) ≤ (1 + 4 * maxListed) * length ps
 unfolding encodeProducts

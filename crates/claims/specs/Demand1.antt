@@ -11,7 +11,8 @@ use Rattle.gf2.specs.Finite.{holds}
 use Rattle.table.specs.Refusal.{Test, Exact, variablesFault, pointFault, orderFault, sharedFault, sizeFault, affineFault, roomFault, layoutFault, placeFault}
 use Rattle.table.specs.Decision.{front}
 use Rattle.table.specs.Table.{shared}
-use Rattle.stored.specs.Marks.{storedOn, storedFree}
+use Rattle.stored.specs.Marks.{storedVariables, storedOn, storedFree}
+use Rattle.stored.specs.Stored.{storedTests, storedFault}
 use Rattle.stored.specs.Reading.{readTests, acceptedRead, refusedRead, readAnswer, onAfter, freeAfter}
 use Rattle.space.specs.Completion.{completedPoints}
 use Rattle.form.specs.Reading.{pointsOf, pointsTests, acceptedPoints, refusedPoints, pointsAnswer, pointsAfter, rewritten, rewriteTests, acceptedRewrite, refusedRewrite, rewriteAnswer, rewriteAfter}
@@ -19,6 +20,7 @@ use Rattle.cubes.specs.Lists.{keep}
 use Rattle.cubes.specs.Records.{recordsOf}
 use Rattle.cubes.specs.Listing.{Call, listing, listingTests, accepting, refusing, answer, listingRoom}
 use Rattle.writing.specs.Writing.{formBytes, writeTests, writeAccepted, writeRefused, writeAnswer, writeAfter}
+use Rattle.report.specs.Report.{refusedLine, tableText, reportText}
 use Rattle.glospruma.specs.Spaces.{linearSpaceTests, linearSpaceAccepted, linearSpaceRefused, linearSpaceAnswer, completeTests, completeAccepted, completeRefused, completeAnswer, completeRoom, completedRestriction, analyseTests, analyseAccepted, analyseRefused, analyseAnswer, analyseRoom}
 use Rattle.glospruma.specs.Affine.{projected, affineTests, affineAccepted, affineRefused, affineAnswer, affineRoom}
 
@@ -90,3 +92,7 @@ pub record Demand1 : Type 0 where
       → Decides (8 ∷ 7 ∷ []) (rewriteTests bytes lent) (rewriteAnswer bytes lent .refusal)
       (acceptedRewrite bytes) refusedRewrite (rewriteAnswer bytes lent)
       (room (rewritten bytes) lent (rewriteAfter bytes lent) ∷ [])
+  -- The printed report has no room and no fields: a table refused prints `refused N` and nothing else. Where only the form is refused, 5 stands in it.
+  pub report : (bytes : List ℕ)
+      → Decides (8 ∷ 1 ∷ 2 ∷ 3 ∷ []) (storedTests bytes) (storedFault bytes)
+      (tableText (storedVariables bytes) (storedOn bytes) (storedFree bytes)) refusedLine (reportText bytes) []
