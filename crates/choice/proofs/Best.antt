@@ -8,7 +8,7 @@ use Prim.Native.Nat.{ℕ, _+_, _-_, _^_, _≤_, _<_}
 use native.Mathlib.Decide.{ℕ-discrete}
 use native.Mathlib.Omega.{arith}
 use lib.Dec.{leb}
-use lib.ListN.{length, getD}
+use lib.ListN.{getD}
 use borrow.Author.Tests.{le-ltb, leb-true, leb-false}
 use Rattle.gf2.specs.Finite.{Mem, Ordered}
 use Rattle.gf2.proofs.Logic.{clash, and-false, and-l, and-r}
@@ -18,7 +18,7 @@ use Rattle.product.proofs.Product.{ordered-at, mem-at}
 use Rattle.gf2.specs.Basis.{reduce}
 use Rattle.cubes.specs.Lists.{keep}
 use Rattle.cubes.specs.Cubes.{Candidate, candidate, degree, pointsOf, IsCandidate}
-use Rattle.cubes.specs.Candidates.{Lexicographic, Earlier, Before, bases, vectors, candidatesOf}
+use Rattle.cubes.specs.Candidates.{Lexicographic, Earlier, Before, vectors, candidatesOf}
 use Rattle.cubes.proofs.Lists.{keep-mem, mem-keep, ordered-keep}
 use Rattle.cubes.proofs.Cubes.{vectors-below}
 use Rattle.cubes.proofs.Candidates.{basis-is, lexicographic-not, bases-ordered, vectors-rising, degree-sound, degree-complete, degree-ordered}

@@ -1,7 +1,7 @@
 -- Laws of the least point of a coset: found vector by vector of an entry, it is the least point of the only candidate of the entry's space that
 -- holds the point. Read next: First.
 use mathlib.Core.Path.{_≡_, refl, sym, ap, _∙_, subst}
-use mathlib.Core.Bool.{Bool, true, _&&_}
+use mathlib.Core.Bool.{true}
 use mathlib.Core.Logic.{inl, inr}
 use Prim.Native.Nat.{ℕ, _-_, _/_, _%_, _≤_, _<_}
 use native.Mathlib.Omega.{arith}
@@ -10,7 +10,7 @@ use lib.Bits.{bitAnd}
 use borrow.Author.Tests.{eq-eqb}
 use Rattle.gf2.specs.Bits.{_⊕_}
 use Rattle.gf2.specs.Finite.{Mem}
-use Rattle.gf2.specs.Basis.{Reduced, clear, reduce}
+use Rattle.gf2.specs.Basis.{clear, reduce}
 use Rattle.gf2.proofs.Reduce.{reduced-pos, reduce-span, span-reduce, reduce-le, reduce-coset, reduce-twice}
 use Rattle.cubes.specs.Cubes.{Candidate, spans, pointsOf, IsCandidate}
 use Rattle.cubes.proofs.Cubes.{spans-is, least-reduce}

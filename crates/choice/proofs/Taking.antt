@@ -1,7 +1,7 @@
 -- Laws of what is taken: the flags of the points that a prime holds, a prime put behind the others, and the points gone through one after the other.
-use mathlib.Core.Path.{_≡_, refl, sym, ap, ap₂, _∙_, subst, fun-ext}
-use mathlib.Core.Bool.{Bool, true, false, cond, _&&_, _||_, or-false, or-true}
-use mathlib.Core.List.{List, [], _∷_, _++_, append-nil}
+use mathlib.Core.Path.{_≡_, refl, sym, ap, ap₂, _∙_, fun-ext}
+use mathlib.Core.Bool.{Bool, true, false, _&&_, _||_, or-false, or-true}
+use mathlib.Core.List.{List, [], _∷_, _++_}
 use Prim.Native.Nat.{ℕ, zero, suc, _+_, _^_, _≤_, _<_}
 use native.Mathlib.Nat.{lt-of-not-le}
 use native.Mathlib.Decide.{ℕ-discrete, decLe}
@@ -9,12 +9,11 @@ use native.Mathlib.Numerals.{add-one}
 use native.Mathlib.Omega.{arith}
 use lib.Dec.{ltb}
 use lib.Pow.{pow-mono}
-use lib.ListN.{length, getD, set, drop, replicate, length-set, length-replicate, getD-replicate, drop-of-length-le}
+use lib.ListN.{length, getD, set, drop, replicate, length-set, getD-replicate, drop-of-length-le}
 use lib.Seq.{drop-cons, getD-set-same, getD-set-other}
 use borrow.Author.Tests.{lt-ltb, le-ltb}
-use Rattle.gf2.specs.Bits.{bit}
 use Rattle.gf2.specs.Finite.{holds}
-use Rattle.gf2.proofs.Logic.{clash, and-false}
+use Rattle.gf2.proofs.Logic.{and-false}
 use Rattle.gf2.proofs.Finite.{holds-mem, rising-length}
 use Rattle.gf2.proofs.Xor.{bit-zero}
 use Rattle.table.specs.Table.{outside, unordered}
@@ -24,16 +23,16 @@ use Rattle.cubes.specs.Lists.{keep}
 use Rattle.cubes.specs.Cubes.{Candidate, pointsOf}
 use Rattle.cubes.specs.Candidates.{candidates}
 use Rattle.cubes.specs.Primes.{isPrime}
-use Rattle.masks.specs.Points.{MaskOf, OfPoints, primeBy}
+use Rattle.masks.specs.Points.{MaskOf, primeBy}
 use Rattle.masks.specs.Entry.{candidateAt, EntryAt}
 use Rattle.masks.proofs.PrimeTest.{entry-candidate}
-use Rattle.cover.specs.Choice.{primesOf, covered, firstHolding, takenFor, takenThrough, chosen}
+use Rattle.cover.specs.Choice.{primesOf, covered, firstHolding, takenThrough, chosen}
 use Rattle.cover.proofs.Primes.{points-coset}
-use Rattle.cover.proofs.Steps.{through-covered, through-taken, covered-next}
+use Rattle.cover.proofs.Steps.{through-covered, through-none, through-taken, covered-next}
 use Rattle.choice.specs.declared.Found.{Found}
 use Rattle.choice.specs.declared.Choice.{Choice}
 use Rattle.choice.specs.Search.{Search, foundOf}
-use Rattle.choice.specs.Chosen.{chosenAt, chosenBy, added, Marks, Chose}
+use Rattle.choice.specs.Chosen.{chosenBy, added, Marks, Chose}
 
 -- ---- what is found, as a list
 
@@ -156,35 +155,29 @@ module _ (m : ℕ) (on : List ℕ) (i : ℕ) (flags : List Bool) (r : Choice) (w
   next : drop i on ≡ getD on i 0 ∷ drop (i + 1) on
   next = rw (add-one) (drop-cons on i 0 h)
 
+  abbrev so-far : List Candidate
+  so-far = chosenBy r (r .count)
+
   -- Nothing is taken, so that nothing changes.
-  taken-none : takenFor (primesOf m on) (chosenBy r (r .count)) (getD on i 0) ≡ [] → TakenTo m on (i + 1) flags r
-  unfolding takenThrough
-  taken-none q = record {
+  unchanged : takenThrough (primesOf m on) so-far (getD on i 0 ∷ drop (i + 1) on) ≡ takenThrough (primesOf m on) so-far (drop (i + 1) on) → TakenTo m on (i + 1) flags r
+  unchanged q = record {
     upto = omega arith;
-    same = ap (λ l. takenThrough (primesOf m on) l (drop (i + 1) on)) (sym (append-nil (chosenBy r (r .count))) ∙ ap (λ l. chosenBy r (r .count) ++ l) (sym q))
-        ∙ ap (takenThrough (primesOf m on) (chosenBy r (r .count))) (sym next) ∙ w .same;
+    same = sym q ∙ ap (takenThrough (primesOf m on) so-far) (sym next) ∙ w .same;
     count = omega (arith, w .count);
     long = w .long;
     flagged = w .flagged;
     entry = w .entry;
   }
 
-  -- A point that is covered takes nothing, nor does one for which nothing is found.
-  pub taken-covered : covered (chosenBy r (r .count)) (getD on i 0) ≡ true → TakenTo m on (i + 1) flags r
-  unfolding takenFor
-  taken-covered t = taken-none (rw t)
+  pub taken-covered : covered so-far (getD on i 0) ≡ true → TakenTo m on (i + 1) flags r
+  taken-covered t = unchanged (through-covered (primesOf m on) so-far (getD on i 0) (drop (i + 1) on) t)
 
-  module _ (t : covered (chosenBy r (r .count)) (getD on i 0) ≡ false) (f : Found) (q : foundOf f ≡ firstHolding (primesOf m on) (getD on i 0)) where
-    taken-is : takenFor (primesOf m on) (chosenBy r (r .count)) (getD on i 0) ≡ foundOf f
-    unfolding takenFor
-    taken-is = rw t (sym q)
-
+  module _ (t : covered so-far (getD on i 0) ≡ false) (f : Found) (q : foundOf f ≡ firstHolding (primesOf m on) (getD on i 0)) where
     pub taken-nothing : f .any ≡ false → TakenTo m on (i + 1) flags r
-    taken-nothing a = taken-none (taken-is ∙ found-none f a)
+    taken-nothing a = unchanged (through-none (primesOf m on) so-far (getD on i 0) (drop (i + 1) on) t (sym q ∙ found-none f a))
 
     pub taken-one : f .any ≡ true → EntryAt m (f .degree) (f .point) (f .entry) → r .count < 64
         → (u : List Bool) → Marks (candidateAt (f .degree) (f .point) (f .entry)) flags u → TakenTo m on (i + 1) u (added r (f .degree) (f .point) (f .entry))
-    unfolding takenThrough
     taken-one a k room u marks =
         let hd : r .count < length (r .degrees) = omega (arith, w .long .degrees) in
         let hp : r .count < length (r .points) = omega (arith, w .long .points) in
@@ -192,15 +185,16 @@ module _ (m : ℕ) (on : List ℕ) (i : ℕ) (flags : List Bool) (r : Choice) (w
         let b = added-by r (f .degree) (f .point) (f .entry) hd hp he in
         let c = candidateAt (f .degree) (f .point) (f .entry) in record {
           upto = omega arith;
-          same = ap (λ l. takenThrough (primesOf m on) l (drop (i + 1) on)) (b ∙ ap (λ l. chosenBy r (r .count) ++ l) (sym (taken-is ∙ found-one f a)))
-              ∙ ap (takenThrough (primesOf m on) (chosenBy r (r .count))) (sym next) ∙ w .same;
+          same = ap (λ l. takenThrough (primesOf m on) l (drop (i + 1) on)) b
+              ∙ sym (through-taken (primesOf m on) so-far (getD on i 0) (drop (i + 1) on) c t (sym q ∙ found-one f a))
+              ∙ ap (takenThrough (primesOf m on) so-far) (sym next) ∙ w .same;
           count = omega (arith, w .count);
           long = record {
             degrees = length-set (r .degrees) (r .count) (f .degree) ∙ w .long .degrees;
             points = length-set (r .points) (r .count) (f .point) ∙ w .long .points;
             entries = length-set (r .entries) (r .count) (f .entry) ∙ w .long .entries;
           };
-          flagged = λ y l. marks y l ∙ ap (λ (z : Bool). z || pointsOf c y) (w .flagged y l) ∙ sym (covered-next (chosenBy r (r .count)) c y) ∙ ap (λ z. covered z y) (sym b);
+          flagged = λ y l. marks y l ∙ ap (λ (z : Bool). z || pointsOf c y) (w .flagged y l) ∙ sym (covered-next so-far c y) ∙ ap (λ z. covered z y) (sym b);
           entry = added-entry r (f .degree) (f .point) (f .entry) hd hp he m (w .entry) k;
         }
 

@@ -21,7 +21,12 @@ pub through-covered : (primes taken : List Candidate) (x : ℕ) (xs : List ℕ) 
 unfolding takenThrough takenFor
 through-covered primes taken x xs e = rw e (ap (λ l. takenThrough primes l xs) (append-nil taken))
 
--- One that isn't takes what the search finds.
+-- One that isn't takes what the search finds, be it nothing.
+pub through-none : (primes taken : List Candidate) (x : ℕ) (xs : List ℕ) → covered taken x ≡ false → firstHolding primes x ≡ []
+    → takenThrough primes taken (x ∷ xs) ≡ takenThrough primes taken xs
+unfolding takenThrough takenFor
+through-none primes taken x xs e q = rw (e, q) (ap (λ l. takenThrough primes l xs) (append-nil taken))
+
 pub through-taken : (primes taken : List Candidate) (x : ℕ) (xs : List ℕ) (c : Candidate) → covered taken x ≡ false → firstHolding primes x ≡ c ∷ []
     → takenThrough primes taken (x ∷ xs) ≡ takenThrough primes (taken ++ (c ∷ [])) xs
 unfolding takenThrough takenFor

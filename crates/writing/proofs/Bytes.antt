@@ -5,8 +5,8 @@ use Prim.Native.Nat.{ℕ, suc, _+_, _*_, _≤_, _<_}
 use native.Mathlib.Nat.{zero-add}
 use native.Mathlib.Numerals.{add-one}
 use native.Mathlib.Omega.{arith}
-use lib.ListN.{length, take, drop, set, getD, length-append}
-use lib.Seq.{sets, sets-eq, take-suc}
+use lib.ListN.{length, take, drop, set, getD, length-set, length-append}
+use lib.Seq.{sets, length-sets, sets-eq, take-suc}
 use Rattle.records.specs.Kinds.{productKind}
 use Rattle.table.specs.Decision.{front}
 use Rattle.product.specs.Product.{Factor, factor}
@@ -23,6 +23,10 @@ sets-append room at (v ∷ first) second next e = sets-append (set room at v) (s
 -- Bytes stored from the front on.
 pub sets-front : (room bytes : List ℕ) → length bytes ≤ length room → sets room 0 bytes ≡ front bytes room
 sets-front room bytes h = sets-eq bytes room 0 (omega arith) ∙ ap (λ (k : ℕ). bytes ++ drop k room) (zero-add (length bytes))
+
+-- Stores leave the length: two single ones at the front, then bytes behind them.
+pub stored-length : (room : List ℕ) (first second : ℕ) (bytes after : List ℕ) → after ≡ sets (set (set room 0 first) 1 second) 2 bytes → length after ≡ length room
+stored-length room first second bytes after e = ap length e ∙ simp (length-sets, length-set)
 
 -- ---- records
 

@@ -86,12 +86,13 @@ module _ (es : List ℕ) (m : ℕ) (r : Choice) where
     )
 
     -- The records of a form stored one behind the other are the form at the front of the room.
-    pub form-stored : (n at : ℕ) (room : List ℕ) → at ≡ 2 + productsLength m (r .degrees) (r .count) → formLength m r ≤ length room
-        → sets (sets (set (set room 0 variablesKind) 1 n) 2 (encodeProducts (productsBy es m r (r .count)))) at (encodeEnd (r .count))
-        ≡ front (encodeForm (record { variables = n; products = productsBy es m r (r .count) })) room
+    pub form-stored : (n at : ℕ) (room after last : List ℕ) → at ≡ 2 + productsLength m (r .degrees) (r .count) → formLength m r ≤ length room
+        → after ≡ sets (set (set room 0 variablesKind) 1 n) 2 (encodeProducts (productsBy es m r (r .count))) → last ≡ sets after at (encodeEnd (r .count))
+        → last ≡ front (encodeForm (record { variables = n; products = productsBy es m r (r .count) })) room
     unfolding encodeForm
-    form-stored n at room e f =
+    form-stored n at room after last e f p q =
         let ps = productsBy es m r (r .count) in
-        sets-append (set (set room 0 variablesKind) 1 n) 2 (encodeProducts ps) (encodeEnd (r .count)) at (e ∙ ap (λ (z : ℕ). 2 + z) (sym (products-length (r .count) (omega arith))))
+        q ∙ ap (λ (x : List ℕ). sets x at (encodeEnd (r .count))) p
+        ∙ sets-append (set (set room 0 variablesKind) 1 n) 2 (encodeProducts ps) (encodeEnd (r .count)) at (e ∙ ap (λ (z : ℕ). 2 + z) (sym (products-length (r .count) (omega arith))))
         ∙ ap (λ (z : ℕ). sets room 0 (variablesKind ∷ n ∷ (encodeProducts ps ++ encodeEnd z))) (sym (products-count (r .count)))
         ∙ sets-front room (encodeForm (record { variables = n; products = ps })) (omega (arith, form-bytes-length n))

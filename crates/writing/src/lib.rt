@@ -9,26 +9,27 @@ use table::ROOM_FAULT;
 use table::SIZE_FAULT;
 ghost use mathlib.Core.Path.{_≡_};
 ghost use mathlib.Core.List.{[], _∷_};
-ghost use Prim.Native.Nat.{ℕ, _+_, _-_, _≤_, _<_, _^_};
+ghost use Prim.Native.Nat.{_+_, _-_, _≤_};
 ghost use lib.ListN.{length};
 ghost use lib.Seq.{sets};
 ghost use Rattle.gf2.specs.Limits.{maxVariables};
-ghost use Rattle.gf2.specs.Finite.{Mem};
 ghost use Rattle.basis.specs.Short.{listed, short};
-ghost use Rattle.basis.specs.Reduced.{vectorsOf, IsBasis};
+ghost use Rattle.basis.specs.Reduced.{vectorsOf};
 ghost use Rattle.table.specs.Decision.{front};
 ghost use Rattle.space.specs.Restriction.{restriction};
 ghost use Rattle.space.specs.Witness.{flagged};
 ghost use Rattle.product.specs.Product.{factor};
 ghost use Rattle.form.specs.Encoding.{encodeFactors, encodeProducts, encodeForm};
-ghost use Rattle.cubes.specs.Records.{maxListed};
 ghost use Rattle.choice.specs.Chosen.{Chose};
 ghost use Rattle.factors.specs.Factors.{productIn, IsProduct};
-ghost use Rattle.writing.specs.Products.{Candidates, productsBy, productLength, productsLength, formLength};
+ghost use Rattle.writing.specs.Products.{Restricts, Candidates, productsBy, productLength, productsLength, formLength};
 ghost use Rattle.writing.specs.Writing.{writeRefused, writeAnswer, writeAfter};
 
 // The largest number of variables of a restriction whose form is written, as `maxListed` of crate `cubes`.
 const MAX_LISTED: usize = 6;
+
+// The number of points of so many variables.
+const MAX_RESTRICTED: usize = 1 << MAX_LISTED;
 
 // Where the first product begins, and the lengths of a factor's record and of the end record, their kind included.
 const FIRST_PRODUCT: usize = 2;
@@ -131,4 +132,59 @@ fn put_form(n: usize, equations: ShortList, m: usize, choice: Choice, room: &mut
     room[1] = n as u8;
     let at = put_products(equations, m, choice, &mut *room);
     records::put_end(&mut *room, at, choice.count as u16);
+}
+
+// ---- the call
+
+// The primes chosen for the restriction, by a basis, of the function that the flags give.
+pub fn choose_restriction(flags: &[bool; MAX_POINTS], basis: Basis, n: usize) -> Choice
+    requires { ⌜ Restricts n basis ⌝ }
+    ensures { λ r. ⌜ Chose (n - basis .len) (restriction n (vectorsOf basis) (flagged (now (flags .entry)))) r ⌝ }
+{
+    let leads = basis.leads();
+    let count = projection::count_kept(flags, leads, n);
+    let mut points = [0u16; MAX_RESTRICTED];
+    projection::write_kept(flags, leads, n, &mut points);
+    choice::choose(n - basis.len, &points[0..count])
+}
+
+// A refusal: all other numbers are 0.
+fn refused(refusal: u8) -> FormWritten
+    ensures { λ r. ⌜ r ≡ writeRefused refusal ⌝ }
+{
+    FormWritten {
+        refusal,
+        length: 0,
+        products: 0,
+    }
+}
+
+// The form of a table, at the front of the room. Refusals 1, 2, 3, 4, 5, then 7.
+pub fn write_form(n: usize, on: &[u16], free: &[u16], room: &mut [u8]) -> FormWritten
+    ensures { λ r. ⌜ r ≡ writeAnswer n (now (on .entry)) (now (free .entry)) (now (room .entry)) ⌝ }
+    ensures { λ r. ⌜ now (room .exit) ≡ writeAfter n (now (on .entry)) (now (free .entry)) (now (room .entry)) ⌝ }
+{
+    let fault = table::table_fault(n, on, free);
+    if fault != 0 {
+        return refused(fault);
+    }
+    let completed = space::complete(n, on, free);
+    let flags = completed.flags;
+    let basis = completed.basis;
+    let m = n - basis.len;
+    if m > MAX_LISTED {
+        return refused(SIZE_FAULT);
+    }
+    let choice = choose_restriction(&flags, basis, n);
+    let length = form_length(choice, m);
+    if room.len() < length {
+        return refused(ROOM_FAULT);
+    }
+    let equations = projection::equations(basis, n);
+    put_form(n, equations, m, choice, &mut *room);
+    FormWritten {
+        refusal: 0,
+        length,
+        products: choice.count,
+    }
 }

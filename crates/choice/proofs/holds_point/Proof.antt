@@ -1,5 +1,5 @@
 -- `choice::holds_point` meets its contract: a point is in the coset exactly if what is left of the sum is 0. Assumes nothing.
-use mathlib.Core.Path.{_≡_, ap}
+use mathlib.Core.Path.{ap}
 use Prim.Native.Nat.{ℕ}
 use lib.Dec.{eqb}
 use borrow.Author.Needs.{needs}

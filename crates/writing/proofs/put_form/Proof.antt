@@ -1,13 +1,14 @@
 -- `writing::put_form` meets its contract: the first record, the products behind it, and the end record behind these. Assumes nothing.
-use mathlib.Core.Path.{_≡_, ap, _∙_}
-use mathlib.Core.List.{List}
-use Prim.Native.Nat.{ℕ}
+use mathlib.Core.Path.{ap, _∙_}
 use native.Mathlib.Omega.{arith}
 use borrow.Author.Needs.{needs}
 use lib.ListN.{length, length-set}
-use lib.Seq.{sets, length-sets}
+use lib.Seq.{length-sets}
 use Rattle.basis.specs.Short.{listed}
-use Rattle.records.specs.Kinds.{encodeEnd}
+use Rattle.records.specs.Kinds.{variablesKind, encodeEnd}
+use Rattle.form.specs.Encoding.{encodeProducts}
+use Rattle.writing.specs.Products.{productsBy}
+use Rattle.writing.proofs.Bytes.{stored-length}
 use Rattle.writing.proofs.Lengths.{form-stored}
 use Rattle.writing.proofs.put_form.Statement.{statement}
 use Rattle.writing.proofs.put_form.Tie as tie
@@ -31,21 +32,23 @@ put-end-requires : tie.Need-put-end-requires
 put-end-requires c κs =
     let s = c .before .before .before .before .before .before .before in
     let p = c .before .before .before .before .put-products in
-    let long : length (p .last .1 .1 .1 .0) ≡ length (s .args .room .now) = ap length (p .ensures .1) ∙ simp (length-sets, length-set) in
-    omega (arith, p .ensures .0, s .pre .1 .1 .1)
+    omega (arith, stored-length (s .args .room .now) variablesKind (s .args .n) (encodeProducts (productsBy (listed (s .args .equations)) (s .args .m) (s .args .choice) (s .args .choice .count))) (p .last .1 .1 .1 .0) (p .ensures .1), p .ensures .0, s .pre .1 .1 .1)
 
 same-length : tie.Need-same-length
 same-length c =
+    let s = c .before .before .before .before .before .before .before .before .before .before in
     let p = c .before .before .before .before .before .before .before .put-products in
-    ap length (c .before .before .put-end .ensures) ∙ simp length-sets (ap length (p .ensures .1) ∙ simp (length-sets, length-set))
+    let q = c .before .before .put-end in
+    ap length (q .ensures) ∙ length-sets (p .last .1 .1 .1 .0) (p .result) (encodeEnd (s .args .choice .count))
+    ∙ stored-length (s .args .room .now) variablesKind (s .args .n) (encodeProducts (productsBy (listed (s .args .equations)) (s .args .m) (s .args .choice) (s .args .choice .count))) (p .last .1 .1 .1 .0) (p .ensures .1)
 
 returns : tie.Need-returns
 returns c =
     let s = c .before .before .before .before .before .before .before .before .before .before in
     let p = c .before .before .before .before .before .before .before .put-products in
-    c .before .before .put-end .ensures
-    ∙ ap (λ (x : List ℕ). sets x (p .result) (encodeEnd (s .args .choice .count))) (p .ensures .1)
-    ∙ form-stored (listed (s .args .equations)) (s .args .m) (s .args .choice) (s .pre .1 .1 .0) (s .args .n) (p .result) (s .args .room .now) (p .ensures .0) (s .pre .1 .1 .1)
+    let q = c .before .before .put-end in
+    form-stored (listed (s .args .equations)) (s .args .m) (s .args .choice) (s .pre .1 .1 .0) (s .args .n) (p .result) (s .args .room .now) (p .last .1 .1 .1 .0) (q .last .0)
+    (p .ensures .0) (s .pre .1 .1 .1) (p .ensures .1) (q .ensures)
 
 pub put-form-spec : {M : Type 1} → statement M
 put-form-spec =
