@@ -7,7 +7,6 @@ use Prim.Native.Nat.{ℕ, _-_, _^_, _≤_, _<_}
 use native.Mathlib.Omega.{arith}
 use lib.ListN.{length}
 use lib.Pow.{pow-mono}
-use Rattle.gf2.specs.Finite.{Mem}
 use Rattle.gf2.specs.Basis.{leadMask}
 use Rattle.gf2.proofs.Reduce.{reduced-length}
 use Rattle.basis.specs.declared.Basis.{Basis}

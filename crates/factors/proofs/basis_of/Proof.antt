@@ -1,10 +1,10 @@
 -- `factors::basis_of` meets its contract: the vectors found, then those of what is left of the entry, are the whole. Assumes nothing.
 use mathlib.Core.Path.{_≡_, refl, sym, ap, _∙_}
-use mathlib.Core.List.{List, [], _∷_, _++_, append-nil}
+use mathlib.Core.List.{[], _∷_, _++_, append-nil}
 use Prim.Native.Nat.{ℕ, _+_, _%_, _≤_}
 use native.Mathlib.Omega.{arith}
 use borrow.Author.Needs.{needs}
-use lib.ListN.{length, length-append}
+use lib.ListN.{length-append}
 use Rattle.basis.specs.declared.Basis.{Basis}
 use Rattle.basis.specs.declared.ShortList.{ShortList}
 use Rattle.basis.specs.Short.{listed, short}

@@ -3,8 +3,7 @@ use mathlib.Core.Path.{_≡_, refl, sym, _∙_}
 use Prim.Native.Nat.{_-_, _≤_}
 use native.Mathlib.Omega.{arith}
 use borrow.Author.Needs.{needs}
-use lib.ListN.{length, take, drop}
-use Rattle.gf2.specs.Limits.{maxVariables}
+use lib.ListN.{take, drop}
 use Rattle.gf2.specs.Bits.{_⊕_}
 use Rattle.cover.specs.Substitution.{substituteMask}
 use Rattle.factors.proofs.Steps.{short-few, substituted-next, substituted-all}
