@@ -3,4 +3,3 @@ pub mod Bytes
 pub mod Lengths
 pub mod Restrictions
 pub mod Answers
-pub mod Refusals

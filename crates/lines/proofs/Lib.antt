@@ -1,0 +1,2 @@
+-- Laws about lines that are made of pieces.
+pub mod Lines
