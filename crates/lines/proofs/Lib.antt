@@ -1,2 +1,3 @@
--- Laws about lines that are made of pieces.
+-- Laws about the lines: what they are made of, and how long they can be.
 pub mod Lines
+pub mod Lengths

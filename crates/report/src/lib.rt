@@ -2,6 +2,7 @@
 use basis::Basis;
 use basis::ShortList;
 use choice::Choice;
+use masks::MAX_LISTED;
 use table::MAX_POINTS;
 use table::ROOM_FAULT;
 use table::SIZE_FAULT;
@@ -25,9 +26,6 @@ ghost use Rattle.report.specs.Parts.{productBy, choiceText, Writable, fo
 
 // Room enough for every report, as `textRoom` in specs/: at most 4,096 points of 5 bytes, or 62 products of at most 6 factors of 12 variables.
 pub const TEXT_ROOM: usize = 24576;
-
-// The largest number of variables of a restriction whose form is written, as `maxListed` of crate `cubes`.
-const MAX_LISTED: usize = 6;
 
 // What writing a report gives: the refusal or 0, and how many bytes are written.
 #[repr(C)]

@@ -1,11 +1,14 @@
-use native.Mathlib.Omega.{arith}
+-- `report::canonical_line` meets its contract: the indices of the canonical variables. Assumes nothing.
+use mathlib.Core.Path.{sym, ap}
 use borrow.Author.Needs.{needs}
+use Rattle.gf2.specs.Basis.{canonicalPlaces, variablesAt}
+use Rattle.basis.specs.Reduced.{vectorsOf}
+use Rattle.basis.proofs.Values.{short-part, short-fits}
+use Rattle.text.proofs.Writing.{room-same, wrote-same}
+use Rattle.lines.specs.Words.{canonicalWord}
+use Rattle.lines.specs.Lines.{numbersLine}
 use Rattle.report.proofs.canonical_line.Statement.{statement}
 use Rattle.report.proofs.canonical_line.Tie as tie
-use Rattle.report.proofs.canonical_line.Reads as reads
-use Rattle.report.proofs.canonical_line.Lts as lts
-use Rattle.basis.proofs.Basis.canonical.Reads as canonical-reads
-use Rattle.lines.proofs.numbers_line.Reads as numbers-line-reads
 
 canonical-requires : tie.Need-canonical-requires
 canonical-requires c κs = search needs
@@ -20,16 +23,25 @@ part-numbers-line-start : tie.Need-part-numbers-line-start
 part-numbers-line-start c = search needs
 
 part-numbers-line-end : tie.Need-part-numbers-line-end
-part-numbers-line-end c = search needs
+part-numbers-line-end c =
+    let a = c .before .before .before .before .before .before .args in
+    short-fits (c .before .before .before .before .canonical .result) (variablesAt (a .n) (canonicalPlaces (a .n) (vectorsOf (a .basis)))) (c .before .before .before .before .canonical .ensures)
 
 numbers-line-requires : tie.Need-numbers-line-requires
-numbers-line-requires c κs = search needs
+numbers-line-requires c κs =
+    let s = c .before .before .before .before .before .before .before in
+    let a = s .args in
+    let v = c .before .before .before .before .before .canonical in
+    room-same (ap (numbersLine canonicalWord) (sym (short-part (v .result) (variablesAt (a .n) (canonicalPlaces (a .n) (vectorsOf (a .basis)))) (v .ensures)))) (s .pre .1)
 
 same-length : tie.Need-same-length
 same-length c = search needs
 
 returns : tie.Need-returns
-returns c = search needs
+returns c =
+    let a = c .before .before .before .before .before .before .before .before .before .before .args in
+    let v = c .before .before .before .before .before .before .before .before .canonical in
+    wrote-same (ap (numbersLine canonicalWord) (short-part (v .result) (variablesAt (a .n) (canonicalPlaces (a .n) (vectorsOf (a .basis)))) (v .ensures))) (c .before .before .numbers-line .ensures)
 
 pub canonical-line-spec : {M : Type 1} → statement M
 canonical-line-spec =

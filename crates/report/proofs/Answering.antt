@@ -1,0 +1,128 @@
+-- What the call that gives the report needs: reading with rooms for every point refuses just what the stored table refuses, a text at the front of
+-- lent bytes, and the answer and the room by the one decision.
+use mathlib.Core.Path.{_≡_, refl, sym, ap, _∙_}
+use mathlib.Core.Bool.{Bool, true, false, cond, _||_}
+use mathlib.Core.Logic.{_≢_}
+use mathlib.Core.List.{List, [], _++_}
+use Prim.Native.Nat.{ℕ, _+_, _-_, _^_, _≤_, _<_}
+use native.Mathlib.Decide.{ℕ-discrete}
+use native.Mathlib.Omega.{arith}
+use lib.Dec.{ltb}
+use lib.Pow.{pow-mono}
+use lib.ListN.{length, take, drop}
+use lib.Seq.{sets, sets-eq, take-at}
+use borrow.Author.Tests.{le-ltb}
+use Rattle.gf2.proofs.Finite.{rising-length}
+use Rattle.table.specs.Refusal.{firstFault, roomFault}
+use Rattle.table.specs.Decision.{front}
+use Rattle.table.specs.Flags.{maxPoints}
+use Rattle.table.proofs.Decide.{decide-accepted, decide-refused, call-short, call-accepted}
+use Rattle.stored.specs.declared.TableRead.{TableRead}
+use Rattle.stored.specs.Marks.{storedVariables, storedOn, storedFree}
+use Rattle.stored.specs.Stored.{storedTests, storedFault}
+use Rattle.stored.specs.Reading.{readFault, refusedRead, acceptedRead, readAnswer, onAfter, freeAfter}
+use Rattle.stored.proofs.Accepting.{stored-accepted}
+use Rattle.stored.proofs.Rooms.{stored-first, then-room, refused-read, accepted-read, accepted-on, accepted-free}
+use Rattle.text.specs.Writing.{HasRoom, Wrote}
+use Rattle.report.specs.Report.{refusedLine, tableText, reportText}
+use Rattle.report.specs.Answer.{textRoom, reportAccepted, reportRefused, reportAnswer, reportAfter}
+use Rattle.report.proofs.Fitting.{report-fits}
+
+-- ---- the stored table
+
+cond-below : (t : Bool) (a b k : ℕ) → a < k → b < k → cond t a b < k
+cond-below true a b k h g = h
+cond-below false a b k h g = g
+
+-- Every refusal of a stored table has one digit.
+pub stored-low : (bytes : List ℕ) → storedFault bytes < 10
+unfolding storedFault firstFault
+stored-low bytes = cond-below _ 8 _ 10 (omega arith) (cond-below _ 1 _ 10 (omega arith) (cond-below _ 2 _ 10 (omega arith) (cond-below _ 3 0 10 (omega arith) (omega arith))))
+
+pub report-room : (bytes room : List ℕ) → textRoom ≤ length room → HasRoom room 0 (reportText bytes)
+report-room bytes room h = record { fits = omega (arith, report-fits bytes (omega (arith, stored-low bytes))) }
+
+-- The lists of a table without fault fit into rooms for every point.
+stored-few : (bytes : List ℕ) → storedFault bytes ≡ 0 → (length (storedOn bytes) ≤ maxPoints) × (length (storedFree bytes) ≤ maxPoints)
+stored-few bytes e =
+    let a = stored-accepted bytes e in
+    let big : 2 ^ storedVariables bytes ≤ maxPoints = pow-mono (a .few) in
+    (omega (arith, rising-length (storedOn bytes) (2 ^ storedVariables bytes) (a .on-rising) (a .on-below)),
+      omega (arith, rising-length (storedFree bytes) (2 ^ storedVariables bytes) (a .free-rising) (a .free-below)))
+
+module _ (bytes on free : List ℕ) (onRoom : length on ≡ maxPoints) (freeRoom : length free ≡ maxPoints) where
+  -- So reading refuses just what the stored table refuses.
+  read-same : readFault bytes (length on) (length free) ≡ storedFault bytes
+  read-same = go (ℕ-discrete (storedFault bytes) 0)
+    where
+      go : Dec (storedFault bytes ≡ 0) → readFault bytes (length on) (length free) ≡ storedFault bytes
+      go (no z) = stored-first bytes (length on) (length free) z
+      go (yes e) =
+          let k = stored-few bytes e in
+          let f : ltb (length on) (length (storedOn bytes)) ≡ false = le-ltb (length on) (length (storedOn bytes)) (omega (arith, k .0)) in
+          let g : ltb (length free) (length (storedFree bytes)) ≡ false = le-ltb (length free) (length (storedFree bytes)) (omega (arith, k .1)) in
+          then-room bytes (length on) (length free) e ∙ rw (f, g) (sym e)
+
+  module _ (r : TableRead) (e : r ≡ readAnswer bytes (length on) (length free)) where
+    refusal-same : r .refusal ≡ storedFault bytes
+    refusal-same = go (ℕ-discrete (readFault bytes (length on) (length free)) 0) ∙ read-same
+      where
+        go : Dec (readFault bytes (length on) (length free) ≡ 0) → r .refusal ≡ readFault bytes (length on) (length free)
+        go (yes z) = ap (λ (x : TableRead). x .refusal) (e ∙ accepted-read bytes on free z) ∙ sym z
+        go (no z) = ap (λ (x : TableRead). x .refusal) (e ∙ refused-read bytes on free z)
+
+    -- A refused table prints its refusal alone.
+    pub read-refused : r .refusal ≢ 0 → refusedLine (r .refusal) ≡ reportText bytes
+    unfolding reportText storedFault
+    read-refused z =
+        sym (decide-refused (storedTests bytes) (tableText (storedVariables bytes) (storedOn bytes) (storedFree bytes)) refusedLine (r .refusal) z (sym refusal-same))
+
+    module _ (z : r .refusal ≡ 0) where
+      pub read-fault : storedFault bytes ≡ 0
+      read-fault = sym refusal-same ∙ z
+
+      pub read-accepted : tableText (storedVariables bytes) (storedOn bytes) (storedFree bytes) ≡ reportText bytes
+      unfolding reportText storedFault
+      read-accepted = sym (decide-accepted (storedTests bytes) (tableText (storedVariables bytes) (storedOn bytes) (storedFree bytes)) refusedLine read-fault)
+
+      pub read-value : r ≡ acceptedRead bytes
+      read-value = e ∙ accepted-read bytes on free (read-same ∙ read-fault)
+
+      -- The lists that were read stand at the front of the rooms.
+      on-front : onAfter bytes on free ≡ front (storedOn bytes) on
+      on-front = accepted-on bytes on free (read-same ∙ read-fault)
+
+      free-front : freeAfter bytes on free ≡ front (storedFree bytes) free
+      free-front = accepted-free bytes on free (read-same ∙ read-fault)
+
+      pub on-read : (after : List ℕ) → after ≡ onAfter bytes on free → take (r .«on_count» - 0) after ≡ storedOn bytes
+      on-read after q =
+          let n : length (storedOn bytes) ≡ r .«on_count» - 0 = omega (arith, ap (λ (x : TableRead). x .«on_count») read-value) in
+          rw (q, on-front) (take-at (storedOn bytes) (drop (length (storedOn bytes)) on) (r .«on_count» - 0) n)
+
+      pub free-read : (after : List ℕ) → after ≡ freeAfter bytes on free → take (r .«free_count» - 0) after ≡ storedFree bytes
+      free-read after q =
+          let n : length (storedFree bytes) ≡ r .«free_count» - 0 = omega (arith, ap (λ (x : TableRead). x .«free_count») read-value) in
+          rw (q, free-front) (take-at (storedFree bytes) (drop (length (storedFree bytes)) free) (r .«free_count» - 0) n)
+
+-- ---- a text at the front of lent bytes
+
+module _ {before text after : List ℕ} {next : ℕ} (h : length text ≤ length before) (w : Wrote before 0 text after next) where
+  pub wrote-front : after ≡ front text before
+  wrote-front = w .bytes ∙ sets-eq text before 0 (omega arith) ∙ ap (λ (k : ℕ). text ++ drop k before) (omega arith)
+
+  pub wrote-part : take (next - 0) after ≡ text
+  wrote-part =
+      let n : length text ≡ next - 0 = omega (arith, w .place) in
+      rw wrote-front (take-at text (drop (length text) before) (next - 0) n)
+
+-- ---- the answer and the room
+
+module _ (bytes room : List ℕ) where
+  pub report-short : length room < length (reportText bytes) → (reportRefused roomFault ≡ reportAnswer bytes room) × (room ≡ reportAfter bytes room)
+  unfolding reportAnswer reportAfter firstFault
+  report-short = call-short [] (reportText bytes) room (reportAccepted bytes) reportRefused (λ t m. absurd m) refl
+
+  pub report-accepted : length (reportText bytes) ≤ length room → (reportAccepted bytes ≡ reportAnswer bytes room) × (front (reportText bytes) room ≡ reportAfter bytes room)
+  unfolding reportAnswer reportAfter firstFault
+  report-accepted = call-accepted [] (reportText bytes) room (reportAccepted bytes) reportRefused (λ t m. absurd m) refl
