@@ -3,19 +3,21 @@
 use mathlib.Core.Path.{_≡_, refl, sym, ap, _∙_}
 use mathlib.Core.Bool.{Bool, true, false, cond, _||_}
 use mathlib.Core.Logic.{_≢_}
-use mathlib.Core.List.{List, [], _++_}
+use mathlib.Core.List.{List, [], _∷_, _++_}
 use Prim.Native.Nat.{ℕ, _+_, _-_, _^_, _≤_, _<_}
 use native.Mathlib.Decide.{ℕ-discrete}
 use native.Mathlib.Omega.{arith}
 use lib.Dec.{ltb}
 use lib.Pow.{pow-mono}
-use lib.ListN.{length, take, drop}
+use lib.ListN.{length, take, drop, replicate, length-replicate}
 use lib.Seq.{sets, sets-eq, take-at}
 use borrow.Author.Tests.{le-ltb}
 use Rattle.gf2.proofs.Finite.{rising-length}
-use Rattle.table.specs.Refusal.{firstFault, roomFault}
+use Rattle.table.specs.Refusal.{Test, firstFault, roomFault}
 use Rattle.table.specs.Decision.{front}
+use Rattle.table.specs.Table.{Accepted}
 use Rattle.table.specs.Flags.{maxPoints}
+use Rattle.table.proofs.Fill.{fill-length}
 use Rattle.table.proofs.Decide.{decide-accepted, decide-refused, call-short, call-accepted}
 use Rattle.stored.specs.declared.TableRead.{TableRead}
 use Rattle.stored.specs.Marks.{storedVariables, storedOn, storedFree}
@@ -24,31 +26,49 @@ use Rattle.stored.specs.Reading.{readFault, refusedRead, acceptedRead, readAnsw
 use Rattle.stored.proofs.Accepting.{stored-accepted}
 use Rattle.stored.proofs.Rooms.{stored-first, then-room, refused-read, accepted-read, accepted-on, accepted-free}
 use Rattle.text.specs.Writing.{HasRoom, Wrote}
+use Rattle.text.proofs.Writing.{wrote-length}
 use Rattle.report.specs.Report.{refusedLine, tableText, reportText}
 use Rattle.report.specs.Answer.{textRoom, reportAccepted, reportRefused, reportAnswer, reportAfter}
 use Rattle.report.proofs.Fitting.{report-fits}
 
 -- ---- the stored table
 
-cond-below : (t : Bool) (a b k : ℕ) → a < k → b < k → cond t a b < k
-cond-below true a b k h g = h
-cond-below false a b k h g = g
+-- A refusal is no more than all numbers of its tests together.
+numbersOf : List Test → ℕ
+numbersOf [] = 0
+numbersOf (t ∷ ts) = t .number + numbersOf ts
 
--- Every refusal of a stored table has one digit.
-pub stored-low : (bytes : List ℕ) → storedFault bytes < 10
-unfolding storedFault firstFault
-stored-low bytes = cond-below _ 8 _ 10 (omega arith) (cond-below _ 1 _ 10 (omega arith) (cond-below _ 2 _ 10 (omega arith) (cond-below _ 3 0 10 (omega arith) (omega arith))))
+fault-low : (ts : List Test) → firstFault ts ≤ numbersOf ts
+unfolding firstFault numbersOf
+fault-low [] = omega arith
+fault-low (t ∷ ts) = go (t .applies) (fault-low ts)
+  where
+    go : (b : Bool) → firstFault ts ≤ numbersOf ts → cond b (t .number) (firstFault ts) ≤ t .number + numbersOf ts
+    go true h = omega arith
+    go false h = omega arith
+
+pub stored-low : (bytes : List ℕ) → storedFault bytes < 100
+unfolding storedFault numbersOf
+stored-low bytes = omega (arith, fault-low (storedTests bytes))
 
 pub report-room : (bytes room : List ℕ) → textRoom ≤ length room → HasRoom room 0 (reportText bytes)
-report-room bytes room h = record { fits = omega (arith, report-fits bytes (omega (arith, stored-low bytes))) }
+report-room bytes room h = record { fits = omega (arith, report-fits bytes (stored-low bytes)) }
+
+-- A local array of that many bytes has room.
+pub report-fresh : (bytes : List ℕ) → HasRoom (replicate textRoom 0) 0 (reportText bytes)
+report-fresh bytes = report-room bytes (replicate textRoom 0) (let n = length-replicate {A = ℕ} textRoom 0 in omega arith)
+
+pub report-long : (bytes : List ℕ) → length (reportText bytes) ≤ length {A = ℕ} (replicate textRoom 0)
+report-long bytes = let n = length-replicate {A = ℕ} textRoom 0 in omega (arith, report-fits bytes (stored-low bytes))
 
 -- The lists of a table without fault fit into rooms for every point.
 stored-few : (bytes : List ℕ) → storedFault bytes ≡ 0 → (length (storedOn bytes) ≤ maxPoints) × (length (storedFree bytes) ≤ maxPoints)
 stored-few bytes e =
     let a = stored-accepted bytes e in
-    let big : 2 ^ storedVariables bytes ≤ maxPoints = pow-mono (a .few) in
-    (omega (arith, rising-length (storedOn bytes) (2 ^ storedVariables bytes) (a .on-rising) (a .on-below)),
-      omega (arith, rising-length (storedFree bytes) (2 ^ storedVariables bytes) (a .free-rising) (a .free-below)))
+    let big : 2 ^ storedVariables bytes ≤ maxPoints = pow-mono (a .few) in (
+      omega (arith, rising-length (storedOn bytes) (2 ^ storedVariables bytes) (a .on-rising) (a .on-below)),
+      omega (arith, rising-length (storedFree bytes) (2 ^ storedVariables bytes) (a .free-rising) (a .free-below)),
+    )
 
 module _ (bytes on free : List ℕ) (onRoom : length on ≡ maxPoints) (freeRoom : length free ≡ maxPoints) where
   -- So reading refuses just what the stored table refuses.
@@ -105,11 +125,47 @@ module _ (bytes on free : List ℕ) (onRoom : length on ≡ maxPoints) (freeRoom
           let n : length (storedFree bytes) ≡ r .«free_count» - 0 = omega (arith, ap (λ (x : TableRead). x .«free_count») read-value) in
           rw (q, free-front) (take-at (storedFree bytes) (drop (length (storedFree bytes)) free) (r .«free_count» - 0) n)
 
+      module _ (afterOn afterFree : List ℕ) (p : afterOn ≡ onAfter bytes on free) (q : afterFree ≡ freeAfter bytes on free) where
+        pub read-table : Accepted (r .variables) (take (r .«on_count» - 0) afterOn) (take (r .«free_count» - 0) afterFree)
+        read-table =
+            let v : r .variables ≡ storedVariables bytes = ap (λ (x : TableRead). x .variables) read-value in
+            rw (v, on-read afterOn p, free-read afterFree q) (stored-accepted bytes read-fault)
+
+        pub read-text : tableText (r .variables) (take (r .«on_count» - 0) afterOn) (take (r .«free_count» - 0) afterFree) ≡ reportText bytes
+        read-text =
+            let v : r .variables ≡ storedVariables bytes = ap (λ (x : TableRead). x .variables) read-value in
+            rw (v, on-read afterOn p, free-read afterFree q) read-accepted
+
+        pub on-fits : r .«on_count» ≤ length afterOn
+        on-fits =
+            omega (
+              arith,
+              ap (λ (x : TableRead). x .«on_count») read-value,
+              ap length (p ∙ on-front),
+              fill-length (storedOn bytes) on (omega (arith, stored-few bytes read-fault .0)),
+              stored-few bytes read-fault .0,
+            )
+
+        pub free-fits : r .«free_count» ≤ length afterFree
+        free-fits =
+            omega (
+              arith,
+              ap (λ (x : TableRead). x .«free_count») read-value,
+              ap length (q ∙ free-front),
+              fill-length (storedFree bytes) free (omega (arith, stored-few bytes read-fault .1)),
+              stored-few bytes read-fault .1,
+            )
+
 -- ---- a text at the front of lent bytes
 
 module _ {before text after : List ℕ} {next : ℕ} (h : length text ≤ length before) (w : Wrote before 0 text after next) where
   pub wrote-front : after ≡ front text before
-  wrote-front = w .bytes ∙ sets-eq text before 0 (omega arith) ∙ ap (λ (k : ℕ). text ++ drop k before) (omega arith)
+  wrote-front =
+      let z : 0 + length text ≡ length text = omega arith in
+      w .bytes ∙ sets-eq text before 0 (omega arith) ∙ ap (λ (k : ℕ). text ++ drop k before) z
+
+  pub wrote-fits : next ≤ length after
+  wrote-fits = omega (arith, w .place, wrote-length w)
 
   pub wrote-part : take (next - 0) after ≡ text
   wrote-part =

@@ -109,7 +109,7 @@ module _ (n : ℕ) (on free : List ℕ) (a : Accepted n on free) where
         length-append (spaceText n bs points) (formText n on free),
         number-length variablesWord n 2 (two-digits n (omega (arith, a .few))),
         counts-length (length on) (length free) (points-few on (rising-length on (2 ^ n) (a .on-rising) (a .on-below)))
-          (points-few free (rising-length free (2 ^ n) (a .free-rising) (a .free-below))),
+            (points-few free (rising-length free (2 ^ n) (a .free-rising) (a .free-below))),
         space-fits,
         form-fits (formSizeFault n on free) refl,
       )

@@ -4,18 +4,32 @@ use mathlib.Core.Bool.{Bool}
 use mathlib.Core.List.{List, [], _∷_, _++_, append-assoc, append-nil, map, zipWith, flatMap}
 use Prim.Native.Nat.{ℕ, zero, suc, _+_, _-_, _^_, _≤_, _<_}
 use native.Mathlib.Omega.{arith}
-use lib.ListN.{length, take, length-map}
+use lib.Pow.{pow-mono}
+use lib.ListN.{length, take, drop, length-map}
+use lib.Seq.{take-at}
 use borrow.Author.Tests.{lt-ltb, le-ltb}
 use Rattle.gf2.specs.Finite.{Mem}
+use Rattle.gf2.specs.Basis.{leadMask}
 use Rattle.basis.specs.declared.Basis.{Basis}
+use Rattle.basis.specs.declared.ShortList.{ShortList}
+use Rattle.basis.specs.Short.{listed, short}
 use Rattle.basis.specs.Reduced.{vectorsOf}
-use Rattle.basis.proofs.Values.{short-part, short-fits}
+use Rattle.basis.proofs.Values.{short-listed, short-part, short-fits, vectors-back}
 use Rattle.table.specs.Refusal.{sizeFault}
+use Rattle.table.specs.Decision.{front}
+use Rattle.table.specs.Table.{Accepted}
+use Rattle.table.specs.Flags.{maxPoints}
+use Rattle.table.proofs.Fill.{fill-length}
 use Rattle.table.proofs.Table.{not-outside, not-unordered}
 use Rattle.space.specs.Closure.{linearSpace, degree}
-use Rattle.space.specs.Completion.{completed}
+use Rattle.space.specs.declared.Completed.{Completed}
+use Rattle.space.specs.Completion.{completed, IsCompleted}
+use Rattle.space.specs.Witness.{flagged}
+use Rattle.space.proofs.Closure.{linear-below}
 use Rattle.space.specs.Restriction.{equations, restriction}
-use Rattle.space.proofs.Restriction.{equations-length, restriction-below, restriction-rising}
+use Rattle.space.proofs.Restriction.{equations-length, restriction-below, restriction-rising, restriction-ext}
+use Rattle.projection.specs.Masks.{kept}
+use Rattle.projection.proofs.Masks.{kept-length, kept-restriction}
 use Rattle.product.specs.Product.{Factor, factor}
 use Rattle.cubes.specs.Cubes.{Candidate}
 use Rattle.cubes.specs.Records.{maxListed}
@@ -121,3 +135,53 @@ module _ {n : ℕ} {b : Basis} (s : Spans n b) where
         inside = not-outside (n - b .len) (restriction n (vectorsOf b) f) (λ y m. subst (λ (k : ℕ). y < 2 ^ k) left (restriction-below n (vectorsOf b) f y m));
         rising = not-unordered (restriction n (vectorsOf b) f) (restriction-rising n (vectorsOf b) f);
       }
+
+  -- The form's lines by the basis.
+  pub basis-refused : (points : List ℕ) → maxListed < n - b .len → refusedLine sizeFault ≡ formLines n (vectorsOf b) points
+  basis-refused points h = form-refused n (vectorsOf b) points (omega (arith, spans-len))
+
+  pub basis-chosen : (points : List ℕ) → n - b .len ≤ maxListed → (r : Choice) → Chose (n - b .len) points r → (es : ShortList) → es ≡ short (equations n (vectorsOf b))
+      → choiceText n (listed es) (n - b .len) r ≡ formLines n (vectorsOf b) points
+  basis-chosen points h r k es q =
+      let e : length (vectorsOf b) ≡ b .len = sym spans-len in
+      ap (λ (l : List ℕ). choiceText n l (n - b .len) r) (short-listed es (equations n (vectorsOf b)) q)
+      ∙ subst (λ (j : ℕ). n - j ≤ maxListed → Chose (n - j) points r → choiceText n (equations n (vectorsOf b)) (n - j) r ≡ formLines n (vectorsOf b) points) e
+      (λ l m. form-chosen n (vectorsOf b) points l r m) h k
+
+  -- What its lead mask keeps is the restriction.
+  pub flags-kept : (f : ℕ → Bool) (leads : ℕ) → leads ≡ leadMask (vectorsOf b) → kept n leads f ≡ restriction n (vectorsOf b) f
+  flags-kept f leads e = ap (λ (m : ℕ). kept n m f) e ∙ kept-restriction n (vectorsOf b) (s .basis .reduced) f
+
+  pub kept-few : (f : ℕ → Bool) (leads : ℕ) → length (kept n leads f) ≤ maxPoints
+  kept-few f leads = omega (arith, kept-length n leads f, pow-mono (s .few))
+
+-- ---- the completed function
+
+module _ {n : ℕ} {on free : List ℕ} {r : Completed} (a : Accepted n on free) (k : IsCompleted n on free r) where
+  space-vectors : vectorsOf (r .basis) ≡ linearSpace n (completed n on free)
+  space-vectors = ap vectorsOf (k .basis .value) ∙ vectors-back (linearSpace n (completed n on free))
+
+  pub completed-spans : Spans n (r .basis)
+  completed-spans = record {
+    few = a .few;
+    basis = k .basis .basis;
+    below = λ c m. linear-below n (completed n on free) c (subst (Mem c) space-vectors m);
+  }
+
+  pub completed-text : functionText n (linearSpace n (completed n on free)) (restriction n (linearSpace n (completed n on free)) (completed n on free))
+      ≡ functionText n (vectorsOf (r .basis)) (restriction n (vectorsOf (r .basis)) (flagged (r .flags)))
+  completed-text =
+      ap (functionText n (linearSpace n (completed n on free)))
+      (sym (restriction-ext n (linearSpace n (completed n on free)) (flagged (r .flags)) (completed n on free) (k .flags)))
+      ∙ ap (λ (bs : List ℕ). functionText n bs (restriction n bs (flagged (r .flags)))) (sym space-vectors)
+
+-- ---- a list at the front of a local array
+
+module _ (answer lent after : List ℕ) (count : ℕ) (h : length answer ≤ length lent) (e : after ≡ front answer lent) (n : count ≡ length answer) where
+  pub front-fits : count ≤ length after
+  front-fits = omega (arith, ap length e, fill-length answer lent h)
+
+  pub front-part : take (count - 0) after ≡ answer
+  front-part =
+      let k : length answer ≡ count - 0 = omega arith in
+      rw e (take-at answer (drop (length answer) lent) (count - 0) k)

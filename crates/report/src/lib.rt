@@ -211,7 +211,13 @@ fn report_text(bytes: &[u8], room: &mut [u8]) -> usize
     }
     let on_count = read.on_count;
     let free_count = read.free_count;
-    table_text(&mut *room, 0, read.variables, &on[0..on_count], &free[0..free_count])
+    table_text(
+        &mut *room,
+        0,
+        read.variables,
+        &on[0..on_count],
+        &free[0..free_count],
+    )
 }
 
 // The report of the bytes of a stored table, at the front of the room. Refusal 7.

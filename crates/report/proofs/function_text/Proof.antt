@@ -1,23 +1,32 @@
-use native.Mathlib.Omega.{arith}
+-- `report::function_text` meets its contract: the lines of the space, then those of the form. Assumes nothing.
 use borrow.Author.Needs.{needs}
+use Rattle.basis.specs.Reduced.{vectorsOf}
+use Rattle.text.proofs.Writing.{room-first, room-then, wrote-both}
+use Rattle.report.specs.Report.{spaceText}
+use Rattle.report.specs.Parts.{formLines, functionText}
 use Rattle.report.proofs.function_text.Statement.{statement}
 use Rattle.report.proofs.function_text.Tie as tie
-use Rattle.report.proofs.function_text.Reads as reads
-use Rattle.report.proofs.function_text.Lts as lts
-use Rattle.report.proofs.form_lines.Reads as form-lines-reads
-use Rattle.report.proofs.space_text.Reads as space-text-reads
 
 space-text-requires : tie.Need-space-text-requires
-space-text-requires c κs = ?
+unfolding functionText
+space-text-requires c κs =
+    let s = c .before .before .before in
+    let a = s .args in
+    (s .pre .0 .spans, room-first (spaceText (a .n) (vectorsOf (a .basis)) (a .points .now)) (formLines (a .n) (vectorsOf (a .basis)) (a .points .now)) (s .pre .1))
 
 form-lines-requires : tie.Need-form-lines-requires
-form-lines-requires c κs = ?
+unfolding functionText
+form-lines-requires c κs =
+    let s = c .before .before .before .before .before .before .before in
+    let a = s .args in
+    (s .pre .0, room-then (formLines (a .n) (vectorsOf (a .basis)) (a .points .now)) (s .pre .1) (c .before .before .before .space-text .ensures))
 
 same-length : tie.Need-same-length
 same-length c = search needs
 
 returns : tie.Need-returns
-returns c = ?
+unfolding functionText
+returns c = wrote-both (c .before .before .before .before .before .before .space-text .ensures) (c .before .before .form-lines .ensures)
 
 pub function-text-spec : {M : Type 1} → statement M
 function-text-spec =
