@@ -13,6 +13,8 @@ use Rattle.table.proofs.Decide.{decide-exact, decide-refused}
 use Rattle.stored.specs.declared.TableRead.{TableRead}
 use Rattle.stored.specs.Reading.{readTests, acceptedRead, refusedRead, readAnswer}
 use Rattle.stored.proofs.Rooms.{read-numbered}
+use Rattle.report.specs.declared.ReportWritten.{ReportWritten}
+use Rattle.report.specs.Answer.{reportTests, reportAccepted, reportRefused, reportAnswer, reportAfter}
 use Rattle.glospruma.specs.declared.LinearSpace.{LinearSpace}
 use Rattle.glospruma.specs.declared.Completion.{Completion}
 use Rattle.glospruma.specs.declared.Analysis.{Analysis}
@@ -63,3 +65,17 @@ pub read-table-exact : (bytes : List ℕ) (on free : ℕ) → Exact (readTests b
 unfolding readAnswer
 read-table-exact bytes on free =
     decide-exact (λ (x : TableRead). x .refusal) (readTests bytes on free) (acceptedRead bytes) refusedRead (read-numbered bytes on free) refl (λ k. refl)
+
+-- The report: only that the text is longer than the room. A refused table is no refusal of the call; its text says so.
+module _ (bytes room : List ℕ) where
+  report-numbered : Numbered (reportTests bytes room)
+  unfolding holds
+  report-numbered = numbered (reportTests bytes room) refl
+
+  pub report-exact : Exact (reportTests bytes room) (reportAnswer bytes room .refusal)
+  unfolding reportAnswer
+  report-exact = decide-exact (λ (x : ReportWritten). x .refusal) (reportTests bytes room) (reportAccepted bytes) reportRefused report-numbered refl (λ k. refl)
+
+  pub report-kept : firstFault (reportTests bytes room) ≢ 0 → reportAfter bytes room ≡ room
+  unfolding reportAfter
+  report-kept z = decide-refused (reportTests bytes room) _ (λ k. room) (firstFault (reportTests bytes room)) z refl
