@@ -5,7 +5,7 @@ use mathlib.Core.Bool.{Bool, true, false, cond, _||_}
 use mathlib.Core.Logic.{_≢_}
 use mathlib.Core.List.{List, [], _∷_, _++_}
 use Prim.Native.Nat.{ℕ, _+_, _-_, _^_, _≤_, _<_}
-use native.Mathlib.Decide.{ℕ-discrete}
+use native.Mathlib.Decide.{ℕ-discrete, decLt}
 use native.Mathlib.Omega.{arith}
 use lib.Dec.{ltb}
 use lib.Pow.{pow-mono}
@@ -27,6 +27,7 @@ use Rattle.stored.proofs.Accepting.{stored-accepted}
 use Rattle.stored.proofs.Rooms.{stored-first, then-room, refused-read, accepted-read, accepted-on, accepted-free}
 use Rattle.text.specs.Writing.{HasRoom, Wrote}
 use Rattle.text.proofs.Writing.{wrote-length}
+use Rattle.report.specs.declared.ReportWritten.{ReportWritten}
 use Rattle.report.specs.Report.{refusedLine, tableText, reportText}
 use Rattle.report.specs.Answer.{textRoom, reportAccepted, reportRefused, reportAnswer, reportAfter}
 use Rattle.report.proofs.Fitting.{report-fits}
@@ -182,3 +183,24 @@ module _ (bytes room : List ℕ) where
   pub report-accepted : length (reportText bytes) ≤ length room → (reportAccepted bytes ≡ reportAnswer bytes room) × (front (reportText bytes) room ≡ reportAfter bytes room)
   unfolding reportAnswer reportAfter firstFault
   report-accepted = call-accepted [] (reportText bytes) room (reportAccepted bytes) reportRefused (λ t m. absurd m) refl
+
+  -- With a room of `textRoom` bytes, as the program has, the whole report stands at its front.
+  pub report-whole : textRoom ≤ length room → (reportAnswer bytes room ≡ reportAccepted bytes) × (take (length (reportText bytes)) (reportAfter bytes room) ≡ reportText bytes)
+  report-whole h =
+      let k = report-accepted (omega (arith, report-fits bytes (stored-low bytes))) in
+      (sym (k .0), ap (take (length (reportText bytes))) (sym (k .1)) ∙ take-at (reportText bytes) (drop (length (reportText bytes)) room) (length (reportText bytes)) refl)
+
+  -- The number of bytes returned is no more than the room has.
+  pub answer-fits : (r : ReportWritten) (after : List ℕ) → r ≡ reportAnswer bytes room → after ≡ reportAfter bytes room → r .length ≤ length after
+  answer-fits r after p q = go (decLt (length room) (length (reportText bytes)))
+    where
+      go : Dec (length room < length (reportText bytes)) → r .length ≤ length after
+      go (yes l) = omega (arith, ap (λ (x : ReportWritten). x .length) (p ∙ sym (report-short l .0)))
+      go (no l) =
+          let fits : length (reportText bytes) ≤ length room = omega arith in
+          omega (
+            arith,
+            ap (λ (x : ReportWritten). x .length) (p ∙ sym (report-accepted fits .0)),
+            ap length (q ∙ sym (report-accepted fits .1)),
+            fill-length (reportText bytes) room fits,
+          )
