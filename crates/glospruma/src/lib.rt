@@ -8,6 +8,7 @@ ghost use Rattle.form.specs.Reading.{pointsAnswer, pointsAfter, rewriteAnswer, 
 ghost use Rattle.cubes.specs.Listing.{answer, listingRoom};
 ghost use Rattle.listing.specs.Answers.{callOf, numbersOf};
 ghost use Rattle.writing.specs.Writing.{writeAnswer, writeAfter};
+ghost use Rattle.report.specs.Answer.{reportAnswer, reportAfter};
 ghost use Rattle.glospruma.specs.Spaces.{linearSpaceAnswer, completeRefused, completeAnswer, completeRoom, analyseRefused, analyseAnswer, analyseRoom};
 ghost use Rattle.glospruma.specs.Affine.{affineRefused, affineAnswer, affineRoom};
 use basis::Basis;
@@ -15,6 +16,7 @@ use basis::ShortList;
 use form::FormPoints;
 use form::FormRewrite;
 use listing::Listed;
+use report::ReportWritten;
 use stored::TableRead;
 use table::AFFINE_FAULT;
 use table::ROOM_FAULT;
@@ -275,4 +277,13 @@ pub extern "C" fn glospruma_write_form(
     ensures { λ r. ⌜ now (room .exit) ≡ writeAfter n (now (on .entry)) (now (free .entry)) (now (room .entry)) ⌝ }
 {
     writing::write_form(n, on, free, &mut *room)
+}
+
+// The printed report of a stored table, at the front of the room; a refused table has a report too. Refusal 7.
+#[no_mangle]
+pub extern "C" fn glospruma_report(bytes: &[u8], room: &mut [u8]) -> ReportWritten
+    ensures { λ r. ⌜ r ≡ reportAnswer (now (bytes .entry)) (now (room .entry)) ⌝ }
+    ensures { λ r. ⌜ now (room .exit) ≡ reportAfter (now (bytes .entry)) (now (room .entry)) ⌝ }
+{
+    report::write_report(bytes, &mut *room)
 }

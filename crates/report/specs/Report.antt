@@ -1,5 +1,5 @@
--- The printed report: the whole output for the bytes of a stored table (document 01, "The printed report").
-use mathlib.Core.Bool.{Bool, cond}
+-- The printed report: the whole output for the bytes of a stored table (document 01, "The printed report"). Read next: Answer.
+use mathlib.Core.Bool.{cond}
 use mathlib.Core.List.{List, _++_}
 use Prim.Native.Nat.{ℕ}
 use lib.ListN.{length}
@@ -19,14 +19,12 @@ use Rattle.lines.specs.Lines.{numberLine, countsLine, numbersLine, equationLine
 abbrev pub refusedLine : ℕ → List ℕ
 refusedLine number = numberLine refusedWord number
 
--- The lines of a complete function f of n variables whose linear space has the basis bs: degree, canonical variables by index, reduction
+-- The lines of a linear space of n variables with the basis bs, and of the restriction by it: degree, canonical variables by index, reduction
 -- equations y1, y2, .., restriction.
-unfoldable pub spaceText : ℕ → List ℕ → (ℕ → Bool) → List ℕ
-spaceText n bs f =
+unfoldable pub spaceText : ℕ → List ℕ → List ℕ → List ℕ
+spaceText n bs points =
     numberLine degreeWord (length bs)
-    ++ (numbersLine canonicalWord (variablesAt n (canonicalPlaces n bs))
-    ++ (equationLines n 1 (equations n bs)
-    ++ numbersLine restrictionWord (restriction n bs f)))
+    ++ (numbersLine canonicalWord (variablesAt n (canonicalPlaces n bs)) ++ (equationLines n 1 (equations n bs) ++ numbersLine restrictionWord points))
 
 -- The lines of the form of a table: its products in their order, or `refused 5` where only the form is refused.
 unfoldable pub formText : ℕ → List ℕ → List ℕ → List ℕ
@@ -35,10 +33,9 @@ formText n on free = cond (formSizeFault n on free) (refusedLine sizeFault) (pro
 -- The report of a table: the on and free counts are the input's; all lines below them are the completed function's.
 unfoldable pub tableText : ℕ → List ℕ → List ℕ → List ℕ
 tableText n on free =
-    numberLine variablesWord n
-    ++ (countsLine (length on) (length free)
-    ++ (spaceText n (linearSpace n (completed n on free)) (completed n on free)
-    ++ formText n on free))
+    let f = completed n on free in
+    let bs = linearSpace n f in
+    numberLine variablesWord n ++ (countsLine (length on) (length free) ++ (spaceText n bs (restriction n bs f) ++ formText n on free))
 
 -- The whole output for the bytes of a stored table. A table refused prints only `refused N`.
 unfoldable pub reportText : List ℕ → List ℕ
