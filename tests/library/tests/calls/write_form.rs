@@ -9,6 +9,7 @@ use crate::tables;
 use crate::tally::Tally;
 use library::FormWritten;
 use reference::calls;
+use reference::generate;
 use reference::numbers::FormNumbers;
 use reference::refusal::SHORT_ROOM;
 use reference::table::Table;
@@ -147,6 +148,32 @@ fn known_restrictions() {
     let mut check = Check::new("write form, known restrictions");
     tables::lifted_tables(172).for_each(|table| check.table(&table));
     check.finish(&[0, 5, 7], 7, 30);
+}
+
+/// Functions of six variables, as sets, with more products and with longer forms
+/// than random ones have, found by a search; and how many of both.
+const LONG_FORMS: [(u64, usize, usize); 2] = [
+    (0xB88D_9D7F_7F1B_7FEF, 21, 278),
+    (0x23B0_2190_AC17_DBE0, 18, 311),
+];
+
+#[test]
+fn long_forms() {
+    let mut check = Check::new("write form, long forms");
+    for (set, products, length) in LONG_FORMS {
+        let flags: Vec<bool> = (0..64).map(|point| set >> point & 1 == 1).collect();
+        for basis in [
+            &[][..],
+            &[64, 128, 256, 512, 1024, 2048],
+            &[1, 2, 4, 8, 16, 32],
+        ] {
+            let table = generate::lifted(6 + basis.len(), basis, &flags);
+            let (expected, _) = compare(&mut check.tally, table.0, &table.1, &[]);
+            assert_eq!((expected.products, expected.length), (products, length));
+            check.table(&table);
+        }
+    }
+    check.tally.finish(&[0, 7]);
 }
 
 #[test]
