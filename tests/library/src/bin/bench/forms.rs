@@ -9,6 +9,7 @@ use reference::generate::{self, Generator};
 use reference::table::{self, Table};
 use std::fmt::Debug;
 use std::hint::black_box;
+use std::slice;
 
 /// Tables of which the slowest counts.
 const TABLES: usize = 300;
@@ -47,7 +48,7 @@ fn tables(n: usize) -> Vec<Table> {
 
 /// Times a call that writes bytes on the input that takes the library longest,
 /// after a comparison of what both sides return and write on every one.
-fn byte_call<I: Clone, T: PartialEq + Debug>(
+fn byte_call<I, T: PartialEq + Debug>(
     title: &str,
     inputs: &[I],
     library_call: impl Fn(&I, &mut [u8]) -> T,
@@ -64,7 +65,7 @@ fn byte_call<I: Clone, T: PartialEq + Debug>(
     });
     compare(
         &format!("{title}, worst of {}", inputs.len()),
-        &[worst.clone()],
+        slice::from_ref(worst),
         |input| library_call(black_box(input), black_box(&mut library_room)),
         |input| plain_call(black_box(input), black_box(&mut plain_room)),
     );

@@ -10,7 +10,7 @@ type Read = (usize, Vec<u16>, Vec<u16>);
 /// The records of bytes that are laid out as a table.
 fn records(bytes: &[u8]) -> Option<&[u8]> {
     let length = bytes.len();
-    if !(5..=LONGEST).contains(&length) || bytes[0] != 0x4E || (length - 5) % 3 != 0 {
+    if !(5..=LONGEST).contains(&length) || bytes[0] != 0x4E || !(length - 5).is_multiple_of(3) {
         return None;
     }
     let (records, end) = bytes[2..].split_at(length - 5);
