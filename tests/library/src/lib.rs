@@ -13,6 +13,8 @@ mod linear_space;
 mod list_primes;
 mod lists;
 mod read_table;
+mod report;
+mod write_form;
 
 pub use affine::{affine, Affine};
 pub use analyse::{analyse, Analysis};
@@ -23,3 +25,5 @@ pub use linear_space::{linear_space, LinearSpace};
 pub use list_primes::{list_primes, Listed};
 pub use lists::{Basis, ShortList};
 pub use read_table::{read_table, TableRead};
+pub use report::{report, Report};
+pub use write_form::{write_form, FormWritten};

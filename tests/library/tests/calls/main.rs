@@ -1,7 +1,8 @@
 //! Comparison of each call of the static library with the reference, one module
 //! to a call; `examples`, `published` and `vectors` compare with fixed answers
 //! instead. Follows document 01, sections "Points and spaces", "Primes", "The
-//! written form", "Refusal numbers" and "Table of proved examples".
+//! written form", "Refusal numbers", "The printed report" and "Table of proved
+//! examples".
 //!
 //! A further call takes a module here with its own `compare` and the inputs of
 //! `tables`, `lists`, `stored` and `forms`, and one in the package's `src`
@@ -22,6 +23,8 @@ mod form_rewrite;
 mod linear_space;
 mod list_primes;
 mod read_table;
+mod report;
+mod write_form;
 
 mod examples;
 mod published;
