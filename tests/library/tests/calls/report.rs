@@ -7,7 +7,16 @@ use crate::tables;
 use crate::tally::Tally;
 use library::Report;
 use reference::generate::{self, Generator};
+use reference::numbers::ReportNumbers;
 use reference::report;
+
+/// The numbers of the call in the reference's words.
+pub fn numbers(found: &Report) -> ReportNumbers {
+    ReportNumbers {
+        refusal: found.refusal,
+        length: found.length,
+    }
+}
 
 /// Makes the call with room of each length and compares its numbers and the
 /// memory: the text, or refusal 7 if it doesn't fit. A refused table has a text.
@@ -17,8 +26,8 @@ pub fn compare_text(tally: &mut Tally, bytes: &[u8], text: &[u8]) {
         let (refusal, length) = if fits { (0, text.len()) } else { (7, 0) };
         let found = library::report(lent.part(), room);
         assert_eq!(
-            found,
-            Report { refusal, length },
+            numbers(&found),
+            ReportNumbers { refusal, length },
             "room {}, {bytes:X?}",
             room.len()
         );

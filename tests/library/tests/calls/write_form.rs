@@ -18,7 +18,7 @@ use reference::table::Table;
 const LONGEST_WRITTEN: usize = 2 + 62 * (1 + 5 * 4) + 3;
 
 /// The numbers of the call in the reference's words.
-fn numbers(found: &FormWritten) -> FormNumbers {
+pub fn numbers(found: &FormWritten) -> FormNumbers {
     FormNumbers {
         refusal: found.refusal,
         length: found.length,
