@@ -8,6 +8,7 @@ use crate::form;
 use crate::numbers::*;
 use crate::primes;
 use crate::refusal;
+use crate::report;
 use crate::space;
 use crate::table;
 
@@ -232,7 +233,21 @@ pub fn form_rewrite(bytes: &[u8], room: &mut [u8]) -> RewriteNumbers {
     })
 }
 
-/// The text that the program prints for a standard input.
-pub fn report(bytes: &[u8]) -> String {
-    crate::report::report(bytes)
+fn try_report(bytes: &[u8], room: &mut [u8]) -> Result<ReportNumbers, u8> {
+    let text = report::report(bytes);
+    check_room(text.as_bytes(), room)?;
+    put(text.as_bytes(), room);
+    Ok(ReportNumbers {
+        refusal: refusal::NONE,
+        length: text.len(),
+    })
+}
+
+/// Writes the text that the program prints for a standard input. Refusal 7; a
+/// refused table has a text, which isn't a refused call.
+pub fn report(bytes: &[u8], room: &mut [u8]) -> ReportNumbers {
+    try_report(bytes, room).unwrap_or_else(|refusal| ReportNumbers {
+        refusal,
+        ..ReportNumbers::default()
+    })
 }

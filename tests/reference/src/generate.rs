@@ -126,6 +126,17 @@ pub fn random_space(generator: &mut Generator, n: usize, dimension: usize) -> Ve
     space::reduced_basis(&space::span(&vectors))
 }
 
+/// The function of n variables whose value at a point is that of a restriction,
+/// one flag to a point, at the values of the equations of a reduced basis.
+pub fn lifted(n: usize, basis: &[u16], restriction: &[bool]) -> Table {
+    let equations = space::equations(n, basis);
+    table_of(n, |point| {
+        let values = equations.iter().map(|&mask| form::parity(mask, point));
+        let image = values.fold(0, |number, value| 2 * number + usize::from(value));
+        restriction[image]
+    })
+}
+
 /// A complete function closed under a random space of the given dimension: its
 /// restriction is random, about so many of a hundred points on. Its degree may
 /// be above that dimension.
@@ -136,14 +147,9 @@ pub fn closed_table(
     on_percent: usize,
 ) -> Table {
     let basis = random_space(generator, n, dimension);
-    let equations = space::equations(n, &basis);
     let size = 1 << (n - dimension);
     let restriction: Vec<bool> = (0..size).map(|_| generator.chance(on_percent)).collect();
-    table_of(n, |point| {
-        let values = equations.iter().map(|&mask| form::parity(mask, point));
-        let image = values.fold(0, |number, value| 2 * number + usize::from(value));
-        restriction[image]
-    })
+    lifted(n, &basis, &restriction)
 }
 
 /// A random canonical product of n variables.

@@ -91,6 +91,13 @@ pub struct RewriteNumbers {
     pub length: usize,
 }
 
+/// Numbers of the call that writes the printed report.
+#[derive(Clone, Copy, Debug, Default, PartialEq, Eq)]
+pub struct ReportNumbers {
+    pub refusal: u8,
+    pub length: usize,
+}
+
 /// A short list of the given numbers, at most twelve.
 pub fn short_list(numbers: &[u16]) -> ShortList {
     let mut list = ShortList {

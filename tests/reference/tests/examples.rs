@@ -5,6 +5,7 @@
 use reference::calls;
 use reference::numbers::short_list;
 use reference::primes;
+use reference::report;
 use reference::table;
 
 const P5_ON: [u16; 10] = [4, 5, 6, 7, 9, 10, 12, 13, 14, 15];
@@ -71,7 +72,7 @@ fn p5_form_and_report() {
     let text = "variables 4\non 10 free 0\ndegree 1\ncanonical 3\ny1 = x1\ny2 = x2\n\
                 y3 = x3 + x4\nrestriction 2 3 5 6 7\nproduct x2=1\n\
                 product x1+x2=1 x1+x3+x4=0\n";
-    assert_eq!(calls::report(&table::write_stored(4, &P5_ON, &[])), text);
+    assert_eq!(report::report(&table::write_stored(4, &P5_ON, &[])), text);
 }
 
 #[test]

@@ -1,12 +1,12 @@
 //! Lines of the report that are easy to get wrong, with whole outputs.
 //! Follows document 01, section "The printed report".
 
-use reference::calls;
+use reference::report::report as text_of;
 use reference::table;
 
 /// The report of a table given as two lists.
 fn report(n: usize, on: &[u16], free: &[u16]) -> String {
-    calls::report(&table::write_stored(n, on, free))
+    text_of(&table::write_stored(n, on, free))
 }
 
 #[test]
@@ -40,12 +40,12 @@ fn variables_stand_in_index_order() {
 #[test]
 fn a_refused_table_prints_its_number_alone() {
     let on = |point| (0x4F, point);
-    assert_eq!(calls::report(&[]), "refused 8\n");
-    assert_eq!(calls::report(&[0x4E, 13, 0x45, 0, 0]), "refused 1\n");
+    assert_eq!(text_of(&[]), "refused 8\n");
+    assert_eq!(text_of(&[0x4E, 13, 0x45, 0, 0]), "refused 1\n");
     let large = table::write_records(2, &[on(1), on(1), on(4)]);
-    assert_eq!(calls::report(&large), "refused 2\n");
+    assert_eq!(text_of(&large), "refused 2\n");
     let both = table::write_records(2, &[on(1), (0x44, 1)]);
-    assert_eq!(calls::report(&both), "refused 3\n");
+    assert_eq!(text_of(&both), "refused 3\n");
 }
 
 #[test]

@@ -6,6 +6,7 @@ use reference::calls;
 use reference::form;
 use reference::generate::{self, Generator};
 use reference::numbers::*;
+use reference::report;
 use reference::space;
 use reference::table;
 
@@ -78,6 +79,9 @@ fn rooms_of_forms() {
         check_byte_room(&bytes, |room| calls::write_form(n, &on, &[], room).refusal);
         check_byte_room(&bytes, |room| calls::form_rewrite(&bytes, room).refusal);
         check_point_room(&on, |room| calls::form_points(&bytes, room).refusal);
+        let stored = table::write_stored(n, &on, &[]);
+        let text = report::report(&stored);
+        check_byte_room(text.as_bytes(), |room| calls::report(&stored, room).refusal);
         let numbers = calls::form_points(&bytes, &mut vec![0; on.len()]);
         assert_eq!(numbers.variables, n);
         assert_eq!(numbers.point_count, on.len());
@@ -164,10 +168,28 @@ fn restriction_of_six_and_of_seven_variables() {
             };
             let refusal = calls::write_form(n, &table.1, &[], &mut []).refusal;
             assert_eq!(refusal, if kept == 6 { 7 } else { 5 });
-            let text = calls::report(&table::write_stored(n, &table.1, &[]));
+            let text = report::report(&table::write_stored(n, &table.1, &[]));
             assert_eq!(text.ends_with("\nrefused 5\n"), kept == 7);
             assert_eq!(text.contains("\nproduct "), kept == 6);
         }
+    }
+}
+
+/// A text is written for a refused table too, if it fits.
+#[test]
+fn rooms_of_reports_on_refused_tables() {
+    for (bytes, text) in [
+        (&[][..], "refused 8\n"),
+        (&[0x4E, 13, 0x45, 0, 0], "refused 1\n"),
+    ] {
+        check_byte_room(text.as_bytes(), |room| calls::report(bytes, room).refusal);
+        let short = calls::report(bytes, &mut [0; 9]);
+        let refused = ReportNumbers {
+            refusal: 7,
+            length: 0,
+        };
+        assert_eq!(short, refused);
+        assert_eq!(calls::report(bytes, &mut [0; 99]).length, 10);
     }
 }
 

@@ -2,7 +2,7 @@
 //! beside this package: NAME.table in, NAME.expected out. Follows document 01,
 //! section "The printed report".
 
-use reference::calls;
+use reference::report;
 use std::fs;
 use std::path::PathBuf;
 
@@ -32,7 +32,7 @@ fn reports_equal_the_expected_ones() {
     for path in &tables {
         let bytes = fs::read(path).expect("the table can be read");
         let expected = fs::read(path.with_extension("expected")).expect("a report to compare with");
-        let text = calls::report(&bytes);
+        let text = report::report(&bytes);
         assert!(text.as_bytes() == expected, "{}", path.display());
     }
     println!("{} pairs compared", tables.len());

@@ -1,6 +1,8 @@
 //! The worked examples, as far as these calls answer them, with the answers that
 //! document 01 prints. Follows document 01, section "Table of proved examples".
 
+use crate::forms;
+use crate::stored;
 use library::{Basis, Listed, ShortList};
 
 const P5_ON: [u16; 10] = [4, 5, 6, 7, 9, 10, 12, 13, 14, 15];
@@ -9,6 +11,19 @@ const P5_FORM: [u8; 19] = [
     0x4E, 0x04, 0x50, 0x58, 0x01, 0x04, 0x00, 0x50, 0x58, 0x01, 0x0C, 0x00, 0x58, 0x00, 0x0B, 0x00,
     0x45, 0x02, 0x00,
 ];
+
+/// The report that document 01 prints whole.
+const P5_REPORT: &str = "variables 4
+on 10 free 0
+degree 1
+canonical 3
+y1 = x1
+y2 = x2
+y3 = x3 + x4
+restriction 2 3 5 6 7
+product x2=1
+product x1+x2=1 x1+x3+x4=0
+";
 
 /// A basis of these vectors.
 fn basis(vectors: &[u16]) -> Basis {
@@ -45,34 +60,34 @@ fn degree_and_restriction(n: usize, on: &[u16]) -> (usize, Vec<u16>) {
     (found.degree, room[..found.count].to_vec())
 }
 
-/// The points of a form of n variables; the form is also written as it was read,
-/// which leaves the byte behind it.
-fn points_of_form(n: usize, form: &[u8]) -> Vec<u16> {
-    let mut room = vec![9; form.len() + 1];
-    let found = library::form_rewrite(form, &mut room);
-    assert_eq!((found.refusal, found.length), (0, form.len()));
-    assert_eq!(room, [form, &[9]].concat());
-    let mut room = [0; 4096];
-    let found = library::form_points(form, &mut room);
-    assert_eq!((found.refusal, found.variables), (0, n));
-    room[..found.count].to_vec()
+/// The form written for a table, which must be true at these points alone.
+fn form_true_at(n: usize, on: &[u16], free: &[u16], points: &[u16]) -> Vec<u8> {
+    let mut room = [0; 1307];
+    let found = library::write_form(n, on, free, &mut room);
+    assert_eq!(found.refusal, 0);
+    let form = room[..found.length].to_vec();
+    assert_eq!(forms::points_read(n, &form), points);
+    form
 }
 
 #[test]
 fn p1_no_point() {
     assert_eq!(degree_and_restriction(1, &[]), (1, vec![]));
-    assert_eq!(points_of_form(1, &[0x4E, 1, 0x45, 0, 0]), []);
+    assert_eq!(form_true_at(1, &[], &[], &[]), [0x4E, 1, 0x45, 0, 0]);
 }
 
 #[test]
 fn p2_one_point() {
     assert_eq!(degree_and_restriction(1, &[0]), (0, vec![0]));
+    let form = [0x4E, 1, 0x50, 0x58, 0, 1, 0, 0x45, 1, 0];
+    assert_eq!(form_true_at(1, &[0], &[], &[0]), form);
 }
 
 #[test]
 fn p3_both_points() {
     assert_eq!(degree_and_restriction(1, &[0, 1]), (1, vec![0]));
-    assert_eq!(points_of_form(1, &[0x4E, 1, 0x50, 0x45, 1, 0]), [0, 1]);
+    let form = [0x4E, 1, 0x50, 0x45, 1, 0];
+    assert_eq!(form_true_at(1, &[0, 1], &[], &[0, 1]), form);
 }
 
 #[test]
@@ -89,6 +104,8 @@ fn p4_parity_of_three() {
     let found = library::list_primes(3, &[1, 2, 4, 7], &[], 0, u64::MAX, &mut room);
     assert_eq!(found, listed(51, 51, 1));
     assert_eq!(room, [2, 1, 3, 5, 0, 0, 0, 0, 9]);
+    let form = [0x4E, 3, 0x50, 0x58, 1, 7, 0, 0x45, 1, 0];
+    assert_eq!(form_true_at(3, &[1, 2, 4, 7], &[], &[1, 2, 4, 7]), form);
 }
 
 #[test]
@@ -104,7 +121,30 @@ fn p5_four_variables() {
     assert_eq!(found.equations, list(&[8, 4, 3]));
     assert_eq!(found.count, 5);
     assert_eq!(room, [2, 3, 5, 6, 7, 9]);
-    assert_eq!(points_of_form(4, &P5_FORM), P5_ON);
+    assert_eq!(form_true_at(4, &P5_ON, &[], &P5_ON), P5_FORM);
+}
+
+#[test]
+fn p5_form_and_its_room() {
+    for length in 0..=P5_FORM.len() + 1 {
+        let fits = length >= P5_FORM.len();
+        let mut room = vec![9; length];
+        let found = library::write_form(4, &P5_ON, &[], &mut room);
+        let numbers = (found.refusal, found.length, found.products);
+        assert_eq!(numbers, if fits { (0, 19, 2) } else { (7, 0, 0) });
+        let (front, rest) = room.split_at(found.length);
+        assert_eq!(front, &P5_FORM[..found.length]);
+        assert!(rest.iter().all(|&byte| byte == 9));
+    }
+}
+
+#[test]
+fn p5_report() {
+    let bytes = stored::bytes_of(&(4, P5_ON.to_vec(), vec![]));
+    let mut room = vec![9; P5_REPORT.len() + 1];
+    let found = library::report(&bytes, &mut room);
+    assert_eq!((found.refusal, found.length), (0, P5_REPORT.len()));
+    assert_eq!(room, [P5_REPORT.as_bytes(), &[9]].concat());
 }
 
 #[test]
@@ -120,6 +160,11 @@ fn p6_five_primes() {
         [1, 5, 3, 0, 0, 0, 0, 0],
     ];
     assert_eq!(room, [&records.concat()[..], &[9]].concat()[..]);
+    let points = [2, 3, 5, 6, 7];
+    let form = [
+        0x4E, 3, 0x50, 0x58, 1, 2, 0, 0x50, 0x58, 1, 6, 0, 0x58, 0, 5, 0, 0x45, 2, 0,
+    ];
+    assert_eq!(form_true_at(3, &points, &[], &points), form);
 }
 
 #[test]
@@ -139,6 +184,8 @@ fn p8_equal_degrees() {
     assert_eq!((found.refusal, found.degree, found.count), (0, 0, 1));
     assert_eq!((found.low, found.high), (0, 0));
     assert_eq!(room, [0, 9, 9]);
+    let form = [0x4E, 2, 0x50, 0x58, 0, 2, 0, 0x58, 0, 1, 0, 0x45, 1, 0];
+    assert_eq!(form_true_at(2, &[0], &[1, 2], &[0]), form);
 }
 
 #[test]
@@ -153,4 +200,5 @@ fn p9_no_prime_and_the_end() {
     };
     assert_eq!(list(12), refused);
     assert_eq!(room, [9; 8]);
+    assert_eq!(form_true_at(2, &[], &[0], &[]), [0x4E, 2, 0x45, 0, 0]);
 }

@@ -13,7 +13,7 @@ use reference::numbers::FormPointsNumbers;
 use reference::refusal::SHORT_ROOM;
 
 /// The numbers of the call in the reference's words.
-fn numbers(found: &FormPoints) -> FormPointsNumbers {
+pub fn numbers(found: &FormPoints) -> FormPointsNumbers {
     FormPointsNumbers {
         refusal: found.refusal,
         variables: found.variables,

@@ -13,7 +13,7 @@ use reference::numbers::RewriteNumbers;
 use reference::refusal::SHORT_ROOM;
 
 /// The numbers of the call in the reference's words.
-fn numbers(found: &FormRewrite) -> RewriteNumbers {
+pub fn numbers(found: &FormRewrite) -> RewriteNumbers {
     RewriteNumbers {
         refusal: found.refusal,
         length: found.length,

@@ -271,30 +271,29 @@ pub fn random_bytes(generator: &mut Generator) -> Vec<u8> {
     bytes
 }
 
-/// Tables of functions closed under a space, so that at most six variables are
-/// kept, with some on points made free in every other one.
-fn closed_tables() -> impl Iterator<Item = Table> {
-    let mut generator = Generator::new(4);
-    let widths = (0..3).flat_map(|_| 1..=12usize);
-    let kinds = widths.flat_map(|n| (0..=n.min(6)).map(move |kept| (n, kept)));
-    kinds.flat_map(move |(n, kept)| {
-        let percent = generator.below(101);
-        let table = generate::closed_table(&mut generator, n, n - kept, percent);
-        let is_free = |_: &u16| generator.chance(20);
-        let (free, on) = table.1.iter().copied().partition(is_free);
-        [table, (n, on, free)]
-    })
-}
-
 /// Tables and the bytes of the forms written for them: every table of 1, 2 and 3
-/// variables, and closed ones of up to 12.
+/// variables, and those of up to 12 that keep at most six.
 pub fn written_forms() -> impl Iterator<Item = (Table, Vec<u8>)> {
-    tables::small_tables().chain(closed_tables()).map(|table| {
+    let wider = tables::kept_tables(4, 2, 6);
+    tables::small_tables().chain(wider).map(|table| {
         let (n, on, free) = &table;
         let form = form::write_form(*n, on, free).expect("at most six variables are kept");
         let bytes = form::encode(&form);
         (table, bytes)
     })
+}
+
+/// The points of a form of n variables; the form is also written as it was read,
+/// which leaves the byte behind it.
+pub fn points_read(n: usize, form: &[u8]) -> Vec<u16> {
+    let mut room = vec![9; form.len() + 1];
+    let found = library::form_rewrite(form, &mut room);
+    assert_eq!((found.refusal, found.length), (0, form.len()));
+    assert_eq!(room, [form, &[9]].concat());
+    let mut room = [0; 4096];
+    let found = library::form_points(form, &mut room);
+    assert_eq!((found.refusal, found.variables), (0, n));
+    room[..found.count].to_vec()
 }
 
 /// Bytes that aren't a form, most by a single fault and at the bound of a number.

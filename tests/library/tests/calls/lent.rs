@@ -94,13 +94,19 @@ impl<T: Entry> Lent<T> {
     }
 }
 
-/// More entries than any answer has.
+/// Entries of a room that an answer leaves over by far.
 const AMPLE: usize = 5000;
 
 /// The lengths of room to try for an answer of so many entries: exact, longer by
 /// one and by many, one short, and none.
 pub fn room_lengths(answer: usize) -> Vec<usize> {
-    let mut lengths = vec![0, answer.saturating_sub(1), answer, answer + 1, AMPLE];
+    let mut lengths = vec![
+        0,
+        answer.saturating_sub(1),
+        answer,
+        answer + 1,
+        answer + AMPLE,
+    ];
     lengths.dedup();
     lengths
 }

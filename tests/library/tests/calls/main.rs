@@ -1,15 +1,18 @@
 //! Comparison of each call of the static library with the reference, one module
 //! to a call; `examples`, `published` and `vectors` compare with fixed answers
-//! instead. Follows document 01, sections "Points and spaces", "Primes", "The
-//! written form", "Refusal numbers" and "Table of proved examples".
+//! instead. `damaged` makes all calls that read bytes on inputs damaged at random,
+//! and `guarded` makes every call beside pages that may not be touched. Follows document 01, sections "Points and spaces", "Primes", "The
+//! written form", "Refusal numbers", "The printed report" and "Table of proved
+//! examples".
 //!
 //! A further call takes a module here with its own `compare` and the inputs of
-//! `tables`, `lists`, `stored` and `forms`, and one in the package's `src`
-//! folder.
+//! `tables`, `lists`, `stored` and `forms`; its declaration stands in the package
+//! in the folder `rust`.
 
 mod forms;
 mod lent;
 mod lists;
+mod pages;
 mod stored;
 mod tables;
 mod tally;
@@ -22,8 +25,11 @@ mod form_rewrite;
 mod linear_space;
 mod list_primes;
 mod read_table;
+mod report;
 mod write_form;
 
+mod damaged;
 mod examples;
+mod guarded;
 mod published;
 mod vectors;

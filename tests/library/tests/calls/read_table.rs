@@ -22,7 +22,7 @@ fn numbers(found: &TableRead) -> TableNumbers {
 
 /// Makes the call with rooms of these lengths; the reference makes it on equal
 /// rooms, and then all numbers and all memory are compared.
-fn compare(tally: &mut Tally, bytes: &[u8], on_length: usize, free_length: usize) {
+pub fn compare(tally: &mut Tally, bytes: &[u8], on_length: usize, free_length: usize) {
     let lent = Lent::holding(bytes);
     let (mut on, mut free) = (Lent::room(on_length), Lent::room(free_length));
     let (mut on_answer, mut free_answer) = (on.part().to_vec(), free.part().to_vec());

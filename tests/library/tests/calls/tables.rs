@@ -60,6 +60,24 @@ fn few_points(generator: &mut Generator, n: usize) -> Table {
     (n, on, free)
 }
 
+/// Some on points of a function are made free: with all of them on it is the
+/// function again.
+fn with_free_on(generator: &mut Generator, (n, all, _): &Table) -> Table {
+    let percent = generator.below(101);
+    let (free, on) = all.iter().copied().partition(|_| generator.chance(percent));
+    (*n, on, free)
+}
+
+/// Some off points of a function are made free: with all of them off it is the
+/// function again.
+fn with_free_off(generator: &mut Generator, (n, on, _): &Table) -> Table {
+    let percent = generator.below(101);
+    let flags = space::flags(*n, on);
+    let off = (0..1u16 << n).filter(|&point| !flags[usize::from(point)]);
+    let free = off.filter(|_| generator.chance(percent)).collect();
+    (*n, on.clone(), free)
+}
+
 /// A function built from a random space and a random restriction.
 fn closed(generator: &mut Generator, n: usize) -> Table {
     let dimension = generator.below(n + 1);
@@ -69,20 +87,14 @@ fn closed(generator: &mut Generator, n: usize) -> Table {
 
 /// As before, and some of its on points are made free: all on has a space.
 fn closed_with_free_on(generator: &mut Generator, n: usize) -> Table {
-    let (_, all, _) = closed(generator, n);
-    let percent = generator.below(101);
-    let (free, on) = all.into_iter().partition(|_| generator.chance(percent));
-    (n, on, free)
+    let table = closed(generator, n);
+    with_free_on(generator, &table)
 }
 
 /// As before, and some of its off points are made free: all off has a space.
 fn closed_with_free_off(generator: &mut Generator, n: usize) -> Table {
-    let (_, on, _) = closed(generator, n);
-    let percent = generator.below(101);
-    let flags = space::flags(n, &on);
-    let off = (0..1u16 << n).filter(|&point| !flags[usize::from(point)]);
-    let free = off.filter(|_| generator.chance(percent)).collect();
-    (n, on, free)
+    let table = closed(generator, n);
+    with_free_off(generator, &table)
 }
 
 /// As before, and some points of both kinds are made free.
@@ -152,18 +164,62 @@ fn symmetric_tables(n: usize) -> Vec<Table> {
     tables
 }
 
-/// Tables of known functions of up to 12 variables, each also with a tenth and
-/// with half of its points made free.
-pub fn known_tables() -> impl Iterator<Item = Table> {
+/// Known functions of up to 12 variables.
+fn known_functions() -> Vec<Table> {
     let mut tables: Vec<Table> = (1..=12).flat_map(symmetric_tables).collect();
     for width in 1..=6 {
         tables.extend((0..=width).map(|output| generate::adder_output(width, output)));
     }
     tables.push(generate::life());
+    tables
+}
+
+/// Tables of known functions of up to 12 variables, each also with a tenth and
+/// with half of its points made free.
+pub fn known_tables() -> impl Iterator<Item = Table> {
     let mut generator = Generator::new(1);
-    tables.into_iter().flat_map(move |table| {
+    known_functions().into_iter().flat_map(move |table| {
         let few = generate::with_free_points(&mut generator, &table, 10);
         let many = generate::with_free_points(&mut generator, &table, 50);
         [table, few, many]
+    })
+}
+
+/// A function, then with some of its on points and with some of its off points
+/// made free; the completed function of each keeps no more variables.
+fn with_each_free(generator: &mut Generator, table: Table) -> [Table; 3] {
+    let on = with_free_on(generator, &table);
+    let off = with_free_off(generator, &table);
+    [table, on, off]
+}
+
+/// Functions of 1 to 12 variables built from a random space and a random
+/// restriction of each number of variables up to the given one, with and without
+/// free points.
+pub fn kept_tables(seed: u64, rounds: usize, most_kept: usize) -> impl Iterator<Item = Table> {
+    let mut generator = Generator::new(seed);
+    let widths = (0..rounds).flat_map(|_| 1..=12usize);
+    let kinds = widths.flat_map(move |n| (0..=n.min(most_kept)).map(move |kept| (n, kept)));
+    kinds.flat_map(move |(n, kept)| {
+        let on_percent = generator.below(101);
+        let table = generate::closed_table(&mut generator, n, n - kept, on_percent);
+        with_each_free(&mut generator, table)
+    })
+}
+
+/// Functions of up to 12 variables whose restriction is a known function of up to
+/// seven, with and without free points.
+pub fn lifted_tables(seed: u64) -> impl Iterator<Item = Table> {
+    let mut generator = Generator::new(seed);
+    let known = known_functions().into_iter();
+    let narrow = known.filter(|&(kept, _, _)| kept <= 7);
+    let kinds = narrow.flat_map(|(kept, on, _)| {
+        let flags = space::flags(kept, &on);
+        [kept, 10, 12].map(|n| (n, kept, flags.clone()))
+    });
+    kinds.flat_map(move |(n, kept, flags)| {
+        let basis = generate::random_space(&mut generator, n, n - kept);
+        let table = generate::lifted(n, &basis, &flags);
+        with_each_free(&mut generator, table)
     })
 }

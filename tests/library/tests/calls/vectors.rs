@@ -1,7 +1,9 @@
-//! The reader and the analysis compared with the expected reports in the folder
-//! `vectors`: all their lines but those of the products. Follows document 01,
-//! section "The printed report".
+//! The expected reports in the folder `vectors`: the report call compared with
+//! them whole, and the reader with the analysis in all lines but those of the
+//! products. Follows document 01, section "The printed report".
 
+use crate::report::compare_text;
+use crate::tally::Tally;
 use library::Analysis;
 use std::fs;
 use std::path::PathBuf;
@@ -61,21 +63,46 @@ fn without_products(expected: &str) -> String {
     kept.join("\n") + "\n"
 }
 
-#[test]
-fn reports_but_for_their_products() {
+/// The files of the folder with one extension, in order of name.
+fn files_with(extension: &str) -> Vec<PathBuf> {
     let entries = fs::read_dir(FOLDER).expect("the folder of vectors can be read");
     let paths = entries.map(|entry| entry.expect("an entry can be read").path());
-    let mut tables: Vec<PathBuf> = paths
-        .filter(|path| path.extension().is_some_and(|found| found == "table"))
+    let mut chosen: Vec<PathBuf> = paths
+        .filter(|path| path.extension().is_some_and(|found| found == extension))
         .collect();
-    tables.sort();
+    chosen.sort();
+    chosen
+}
+
+/// Each stored table with its expected report and its name.
+fn pairs() -> Vec<(Vec<u8>, String, String)> {
+    let tables = files_with("table");
     assert!(!tables.is_empty(), "the folder holds no tables");
-    for path in &tables {
+    assert_eq!(tables.len(), files_with("expected").len());
+    let read_pair = |path: &PathBuf| {
         let bytes = fs::read(path).expect("the table can be read");
-        let expected = path.with_extension("expected");
-        let expected = fs::read_to_string(expected).expect("a report to compare with");
-        let text = report(&bytes);
-        assert_eq!(text, without_products(&expected), "{}", path.display());
+        let expected = fs::read_to_string(path.with_extension("expected"));
+        let expected = expected.expect("a report to compare with");
+        (bytes, expected, path.display().to_string())
+    };
+    tables.iter().map(read_pair).collect()
+}
+
+#[test]
+fn reports_but_for_their_products() {
+    let pairs = pairs();
+    for (bytes, expected, name) in &pairs {
+        assert_eq!(report(bytes), without_products(expected), "{name}");
     }
-    println!("vectors: {} reports compared", tables.len());
+    println!("vectors: {} reports compared", pairs.len());
+}
+
+#[test]
+fn whole_reports() {
+    let mut tally = Tally::new("report, vectors");
+    for (bytes, expected, name) in pairs() {
+        println!("{name}");
+        compare_text(&mut tally, &bytes, expected.as_bytes());
+    }
+    tally.finish(&[0, 7]);
 }

@@ -1,8 +1,10 @@
 //! Times of the static library's calls beside plain Rust with the same
 //! algorithms, in one run, and their ratio. Follows document 01, sections "Points
-//! and spaces" and "Primes". The address at which a tight loop happens to stand changes its
-//! time by up to a third, on either side, so a ratio says no more than that.
+//! and spaces", "Primes", "The written form" and "The printed report". The
+//! address at which a tight loop happens to stand changes its time by up to a
+//! third, on either side, so a ratio says no more than that.
 
+mod forms;
 mod measure;
 mod plain;
 
@@ -153,4 +155,5 @@ fn main() {
         plain::complete,
     );
     listings();
+    forms::forms();
 }

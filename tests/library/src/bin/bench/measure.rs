@@ -1,7 +1,8 @@
 //! Measures two ways to do the same work, in turns, and prints both times. The
-//! work is that of document 01, sections "Points and spaces" and "Primes".
+//! work is that of document 01, section "What the library holds".
 
 use std::hint::black_box;
+use std::slice;
 use std::time::{Duration, Instant};
 
 /// Fewest turns of each side, if the time for them suffices; the shortest time of
@@ -60,4 +61,17 @@ pub fn compare<I, T>(
         micros(plain_time),
         library_time.as_secs_f64() / plain_time.as_secs_f64()
     );
+}
+
+/// Turns on each input when the slowest is sought.
+const SEARCH_TURNS: usize = 9;
+
+/// The input on which the work takes longest, by the shortest of some turns.
+pub fn slowest<I, T>(inputs: &[I], mut work: impl FnMut(&I) -> T) -> &I {
+    let mut shortest = |input| {
+        let turns = (0..SEARCH_TURNS).map(|_| time(slice::from_ref(input), &mut work));
+        turns.min()
+    };
+    let slowest = inputs.iter().max_by_key(|&input| shortest(input));
+    slowest.expect("there are inputs")
 }

@@ -3,7 +3,7 @@
 
 use super::basis::{lead, leads};
 use super::complete::{completed, Completed};
-use super::table::write;
+use super::table::{write, Flags};
 use library::{Analysis, Basis, ShortList};
 
 /// A number at the end of a short list.
@@ -20,7 +20,7 @@ fn equation(basis: &Basis, bit: u16) -> u16 {
 }
 
 /// Canonical variables by index, and the masks of the equations.
-fn variables(n: usize, basis: &Basis, leads: u16) -> (ShortList, ShortList) {
+pub fn variables(n: usize, basis: &Basis, leads: u16) -> (ShortList, ShortList) {
     let (mut canonical, mut equations) = (ShortList::default(), ShortList::default());
     for index in 1..=n {
         let bit = 1u16 << (n - index);
@@ -48,13 +48,23 @@ fn without_leads(n: usize, leads: u16, point: u16) -> u16 {
     kept
 }
 
+/// The points of the restriction, rising.
+pub fn restriction<'a>(
+    n: usize,
+    flags: &'a Flags,
+    leads: u16,
+) -> impl Iterator<Item = u16> + Clone + 'a {
+    let points = 0..1u16 << n;
+    let chosen = points.filter(move |&point| point & leads == 0 && flags[usize::from(point)]);
+    chosen.map(move |point| without_leads(n, leads, point))
+}
+
 fn try_analyse(n: usize, on: &[u16], free: &[u16], room: &mut [u16]) -> Result<Analysis, u8> {
     let Completed { flags, basis, .. } = completed(n, on, free)?;
     let leads = leads(&basis);
-    let chosen = (0..1u16 << n).filter(|&point| point & leads == 0 && flags[usize::from(point)]);
-    let count = chosen.clone().count();
-    let restriction = chosen.map(|point| without_leads(n, leads, point));
-    write(restriction, count, room)?;
+    let points = restriction(n, &flags, leads);
+    let count = points.clone().count();
+    write(points, count, room)?;
     let (canonical, equations) = variables(n, &basis, leads);
     Ok(Analysis {
         refusal: 0,

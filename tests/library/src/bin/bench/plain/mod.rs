@@ -1,17 +1,28 @@
 //! The calls in plain Rust with the library's algorithms, one file to a call:
 //! flags one to a point; vectors rising, without those already in the span; a
 //! search that stops at the first witness against closure; insertion into a
-//! reduced basis; for primes, the table of all reduced bases. Follows document
-//! 01, sections "Points and spaces" and "Primes".
+//! reduced basis; for primes, the table of all reduced bases, and for a form the
+//! first prime that holds a point. Follows document 01, sections "Points and
+//! spaces", "Primes", "The written form" and "The printed report".
 
 mod analyse;
+mod bases;
 mod basis;
+mod choice;
 mod complete;
 mod linear_space;
 mod list_primes;
+mod products;
+mod read_table;
+mod report;
+mod sets;
 mod table;
+mod text;
+mod write_form;
 
 pub use analyse::analyse;
 pub use complete::complete;
 pub use linear_space::linear_space;
 pub use list_primes::list_primes;
+pub use report::report;
+pub use write_form::write_form;

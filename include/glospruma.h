@@ -1,0 +1,171 @@
+/* The public calls of Glospruma, for C on x86-64. Build the library with `rt staticlib glospruma` and link
+ * target/staticlib/libglospruma.a:
+ *
+ *     cc -Iinclude program.c target/staticlib/libglospruma.a
+ *
+ * Points are numbers below 2^n; x1 is the highest bit of a point, xn its lowest. A table is a rising list of on points and a rising list of
+ * free points; all other points are off. A list or a room passes as a pointer and its length, counted in its own elements; the pointer may be
+ * anything but NULL where the length is 0.
+ *
+ * Every call may be made with any numbers and any bytes. It returns a struct whose first field is 0, or a refusal number of the list below.
+ * A refused call has all other numbers 0 and every lent room as it was. An accepted call has its answer at the front of the room, and the rest
+ * of the room as it was. No call keeps a pointer, and no call has a state of its own.
+ *
+ * Where two lists or rooms are lent, a room may not overlap another room or list.
+ */
+#ifndef GLOSPRUMA_H
+#define GLOSPRUMA_H
+
+#include <stddef.h>
+#include <stdint.h>
+
+#ifdef __cplusplus
+extern "C" {
+#endif
+
+/* The largest number of variables, of points of a table, and of variables of a listing. */
+#define GLOSPRUMA_MAX_VARIABLES 12
+#define GLOSPRUMA_MAX_POINTS 4096
+#define GLOSPRUMA_MAX_LISTED 6
+
+/* Rooms that always suffice: for the form written for a table, and for any form that can be read. */
+#define GLOSPRUMA_WRITTEN_ROOM 1605
+#define GLOSPRUMA_FORM_ROOM 3141
+
+/* The length of a record of the listing: degree, least point, basis vectors rising, unused bytes 0. */
+#define GLOSPRUMA_RECORD_LENGTH 8
+
+enum glospruma_refusal {
+    GLOSPRUMA_ACCEPTED = 0,
+    GLOSPRUMA_VARIABLES = 1, /* n is 0 or above 12 */
+    GLOSPRUMA_POINT = 2,     /* a point of either list is 2^n or more */
+    GLOSPRUMA_ORDER = 3,     /* a point isn't greater than the one before it in its list */
+    GLOSPRUMA_SHARED = 4,    /* a point stands in both lists */
+    GLOSPRUMA_SIZE = 5,      /* listing with n above 6, or a form whose restriction has more than 6 variables */
+    GLOSPRUMA_AFFINE = 6,    /* smallest affine space of an empty on set */
+    GLOSPRUMA_ROOM = 7,      /* an answer is longer than its lent room */
+    GLOSPRUMA_LAYOUT = 8,    /* bytes aren't a form, or aren't laid out as a table */
+    GLOSPRUMA_PLACE = 9      /* a listing place above the number of candidates */
+};
+
+/* Up to twelve numbers; unused entries are 0. */
+typedef struct {
+    uint16_t values[GLOSPRUMA_MAX_VARIABLES];
+    size_t len;
+} glospruma_short_list;
+
+/* A reduced basis: each vector's highest set bit is set in no other, vectors rise; unused entries are 0. */
+typedef struct {
+    uint16_t vectors[GLOSPRUMA_MAX_VARIABLES];
+    size_t len;
+} glospruma_basis;
+
+typedef struct {
+    uint8_t refusal;
+    size_t variables;  /* n */
+    size_t on_count;   /* points written to the room for on points */
+    size_t free_count; /* points written to the room for free points */
+} glospruma_table_read;
+
+/* Reads a stored table into two rooms. Refusals 8; 1, 2, 3; 7 if either room is short, and then neither is written. */
+glospruma_table_read glospruma_read_table(const uint8_t *bytes, size_t bytes_length, uint16_t *on, size_t on_length, uint16_t *free_points,
+                                          size_t free_length);
+
+typedef struct {
+    uint8_t refusal;
+    size_t degree;
+    glospruma_basis basis;
+} glospruma_space;
+
+/* The linear space of the function that is on at the given points and off elsewhere. Refusals 1, 2, 3. */
+glospruma_space glospruma_linear_space(size_t n, const uint16_t *on, size_t on_length);
+
+typedef struct {
+    uint8_t refusal;
+    size_t count;  /* points written */
+    size_t degree; /* of the completed function */
+    size_t low;    /* k0, the degree with all free points off */
+    size_t high;   /* k1, the degree with all free points on */
+} glospruma_completion;
+
+/* The completed function's on points, rising, into the room. Refusals 1, 2, 3, 4; 7. */
+glospruma_completion glospruma_complete(size_t n, const uint16_t *on, size_t on_length, const uint16_t *free_points, size_t free_length,
+                                        uint16_t *room, size_t room_length);
+
+typedef struct {
+    uint8_t refusal;
+    size_t degree;
+    glospruma_basis basis;          /* of the completed function's linear space */
+    glospruma_short_list canonical; /* indices of the canonical variables, rising */
+    glospruma_short_list equations; /* the mask of the right side of y1, y2, .. */
+    size_t count;                   /* points of the restriction written */
+} glospruma_analysis;
+
+/* The completed function's linear space and equations, and its restriction's points, rising, into the room. Refusals 1, 2, 3, 4; 7. */
+glospruma_analysis glospruma_analyse(size_t n, const uint16_t *on, size_t on_length, const uint16_t *free_points, size_t free_length,
+                                     uint16_t *room, size_t room_length);
+
+typedef struct {
+    uint8_t refusal;
+    uint16_t least;        /* the least point of the space, which need not be on */
+    size_t dimension;      /* below n: the on set is D-reducible */
+    glospruma_basis basis; /* of the space's directions */
+    size_t count;          /* projected points written */
+} glospruma_affine_space;
+
+/* The smallest affine space that holds the on points, and their projection into the room. Refusals 1, 2, 3, 6; 7. */
+glospruma_affine_space glospruma_affine(size_t n, const uint16_t *on, size_t on_length, uint16_t *room, size_t room_length);
+
+typedef struct {
+    uint8_t refusal;
+    uint64_t next;   /* the place to go on from */
+    uint64_t passed; /* candidates passed: next less place */
+    size_t records;  /* records of 8 bytes written */
+} glospruma_listed;
+
+/* The primes of a table from a place on, at most `allowance` candidates, records into the room; a room that runs short stops the listing.
+ * Refusals 1, 2, 3, 4, 5, 9. */
+glospruma_listed glospruma_list_primes(size_t n, const uint16_t *on, size_t on_length, const uint16_t *free_points, size_t free_length,
+                                       uint64_t place, uint64_t allowance, uint8_t *room, size_t room_length);
+
+typedef struct {
+    uint8_t refusal;
+    size_t length;   /* bytes written */
+    size_t products; /* products of the form */
+} glospruma_form_written;
+
+/* The form of a table's completed function, as bytes into the room. Refusals 1, 2, 3, 4, 5, 7. */
+glospruma_form_written glospruma_write_form(size_t n, const uint16_t *on, size_t on_length, const uint16_t *free_points, size_t free_length,
+                                            uint8_t *room, size_t room_length);
+
+typedef struct {
+    uint8_t refusal;
+    size_t variables; /* n */
+    size_t count;     /* points written */
+} glospruma_points_read;
+
+/* The points of a form, rising, into the room. Refusals 8; 7. */
+glospruma_points_read glospruma_form_points(const uint8_t *bytes, size_t bytes_length, uint16_t *room, size_t room_length);
+
+typedef struct {
+    uint8_t refusal;
+    size_t length; /* bytes written, the same as were read */
+} glospruma_form_rewritten;
+
+/* A form read and written again, into the room: the same bytes. Refusals 8; 7. */
+glospruma_form_rewritten glospruma_form_rewrite(const uint8_t *bytes, size_t bytes_length, uint8_t *room, size_t room_length);
+
+typedef struct {
+    uint8_t refusal;
+    size_t length; /* bytes of text written */
+} glospruma_report_written;
+
+/* The printed report of a stored table, as text into the room. A table that is refused is reported by the line `refused N`; the call itself
+ * is refused only with 7. */
+glospruma_report_written glospruma_report(const uint8_t *bytes, size_t bytes_length, uint8_t *room, size_t room_length);
+
+#ifdef __cplusplus
+}
+#endif
+
+#endif

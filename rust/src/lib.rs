@@ -1,0 +1,69 @@
+//! The calls of Glospruma: it reads a Boolean table with free points, finds its
+//! linear space, canonical variables, reduction equations and restriction, the
+//! smallest affine space of its on points and its primes, and writes it as an OR
+//! of ANDs of XORs. Follows document 01, section "What the library holds".
+//!
+//! Points are numbers below 2^n, n from 1 to 12; x1 is the highest bit of a point
+//! and xn its lowest. A table is n, a rising list of on points and a rising list
+//! of free points; all other points are off. A call takes slices and lent rooms
+//! and allocates nothing. Its answer borrows the front of the room; the rest of
+//! the room is as it was. A refused call gives a [`Refusal`] and leaves every
+//! room as it was.
+//!
+//! ```
+//! use glospruma::{analyse, write_form, Refusal};
+//!
+//! let on = [4, 5, 6, 7, 9, 10, 12, 13, 14, 15];
+//! let mut room = [0; 16];
+//! let found = analyse(4, &on, &[], &mut room)?;
+//! assert_eq!(found.basis.as_slice(), [3]);
+//! assert_eq!(found.restriction, [2, 3, 5, 6, 7]);
+//!
+//! let mut short = [0; 18];
+//! let refusal = write_form(4, &on, &[], &mut short).unwrap_err();
+//! assert_eq!(refusal, Refusal::Room);
+//! # Ok::<(), Refusal>(())
+//! ```
+//!
+//! [`raw`] has the same calls with their numbers as they come.
+
+pub mod raw;
+
+mod forms;
+mod primes;
+mod refusal;
+mod spaces;
+mod stored;
+
+pub use forms::{form_points, form_rewrite, write_form, FormPoints, RewrittenForm, WrittenForm};
+pub use primes::{list_primes, Listing, Prime};
+pub use raw::{Basis, ShortList};
+pub use refusal::Refusal;
+pub use spaces::{
+    affine, analyse, complete, linear_space, AffineSpace, Analysis, Completion, LinearSpace,
+};
+pub use stored::{read_table, report, Report, Table};
+
+/// The largest number of variables.
+pub const MAX_VARIABLES: usize = 12;
+
+/// Room for points that always suffices.
+pub const MAX_POINTS: usize = 4096;
+
+/// The largest number of variables of a listing.
+pub const MAX_LISTED: usize = 6;
+
+/// Bytes of the longest stored table; a longer input isn't laid out as one.
+pub const TABLE_LENGTH: usize = 12_293;
+
+/// Room that always suffices for the form written for a table.
+pub const WRITTEN_ROOM: usize = 1605;
+
+/// Room that always suffices for writing a form again: bytes of the longest form.
+pub const FORM_ROOM: usize = 3141;
+
+/// Room that always suffices for a report.
+pub const REPORT_ROOM: usize = 24_576;
+
+/// Bytes of a record of the listing.
+pub const RECORD_LENGTH: usize = 8;

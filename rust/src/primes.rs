@@ -1,0 +1,82 @@
+//! The listing of primes. Follows document 01, section "Primes".
+
+use crate::raw;
+use crate::refusal::{check, Refusal};
+use crate::RECORD_LENGTH;
+
+/// What a listing call passed and wrote.
+#[derive(Clone, Copy, Debug, PartialEq, Eq)]
+pub struct Listing<'a> {
+    /// The place to go on from.
+    pub next: u64,
+    /// Candidates passed: the next place less the place.
+    pub passed: u64,
+    /// The records of the primes passed, [`RECORD_LENGTH`] bytes each.
+    pub records: &'a [u8],
+}
+
+/// One prime, as its record says.
+#[derive(Clone, Copy, Debug, PartialEq, Eq)]
+pub struct Prime<'a> {
+    /// The logarithm to base 2 of its size.
+    pub degree: u8,
+    /// Its least point.
+    pub least: u8,
+    /// The reduced basis of its directions, as many vectors as the degree.
+    pub basis: &'a [u8],
+}
+
+impl<'a> Listing<'a> {
+    /// The primes of the records, in order.
+    pub fn primes(&self) -> impl Iterator<Item = Prime<'a>> {
+        self.records
+            .chunks_exact(RECORD_LENGTH)
+            .map(|record| Prime {
+                degree: record[0],
+                least: record[1],
+                basis: &record[2..2 + usize::from(record[0])],
+            })
+    }
+}
+
+/// Lists the primes of a table from a place on: passes candidates in order until
+/// the end, until the allowance of candidates is spent, or until a prime no
+/// longer fits the room, to which the records go. A place is a number of
+/// candidates behind: a listing starts at 0 and goes on at
+/// [`next`](Listing::next). Refusals [`Variables`](Refusal::Variables),
+/// [`Point`](Refusal::Point), [`Order`](Refusal::Order),
+/// [`Shared`](Refusal::Shared), [`Size`](Refusal::Size),
+/// [`Place`](Refusal::Place); a room that runs short is no refusal.
+///
+/// ```
+/// use glospruma::{list_primes, Refusal, RECORD_LENGTH};
+///
+/// let on = [2, 3, 5, 6, 7];
+/// let mut room = [0; 2 * RECORD_LENGTH];
+/// let (mut place, mut found) = (0, Vec::new());
+/// while place < 51 {
+///     let listing = list_primes(3, &on, &[], place, u64::MAX, &mut room)?;
+///     found.extend(listing.primes().map(|prime| (prime.least, prime.basis.to_vec())));
+///     place = listing.next;
+/// }
+/// assert_eq!(found[0], (2, vec![1, 4]));
+/// assert_eq!(found[1..].len(), 4);
+/// assert_eq!(list_primes(3, &on, &[], 52, 1, &mut room), Err(Refusal::Place));
+/// # Ok::<(), Refusal>(())
+/// ```
+pub fn list_primes<'a>(
+    n: usize,
+    on: &[u16],
+    free: &[u16],
+    place: u64,
+    allowance: u64,
+    room: &'a mut [u8],
+) -> Result<Listing<'a>, Refusal> {
+    let found = raw::list_primes(n, on, free, place, allowance, room);
+    check(found.refusal)?;
+    Ok(Listing {
+        next: found.next,
+        passed: found.passed,
+        records: &room[..RECORD_LENGTH * found.records],
+    })
+}

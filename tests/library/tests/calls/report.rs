@@ -1,0 +1,171 @@
+//! The call that writes the report of a stored table compared with the reference.
+//! Follows document 01, section "The printed report".
+
+use crate::lent::{with_each_room, Lent};
+use crate::stored;
+use crate::tables;
+use crate::tally::Tally;
+use library::Report;
+use reference::generate::{self, Generator};
+use reference::numbers::ReportNumbers;
+use reference::report;
+
+/// The numbers of the call in the reference's words.
+pub fn numbers(found: &Report) -> ReportNumbers {
+    ReportNumbers {
+        refusal: found.refusal,
+        length: found.length,
+    }
+}
+
+/// Makes the call with room of each length and compares its numbers and the
+/// memory: the text, or refusal 7 if it doesn't fit. A refused table has a text.
+pub fn compare_text(tally: &mut Tally, bytes: &[u8], text: &[u8]) {
+    let lent = Lent::holding(bytes);
+    with_each_room(text, |room, fits| {
+        let (refusal, length) = if fits { (0, text.len()) } else { (7, 0) };
+        let found = library::report(lent.part(), room);
+        assert_eq!(
+            numbers(&found),
+            ReportNumbers { refusal, length },
+            "room {}, {bytes:X?}",
+            room.len()
+        );
+        lent.assert_as_lent();
+        tally.add(found.refusal);
+    });
+}
+
+/// As before, with the reference's text, which is handed back.
+fn compare(tally: &mut Tally, bytes: &[u8]) -> String {
+    let text = report::report(bytes);
+    compare_text(tally, bytes, text.as_bytes());
+    text
+}
+
+/// Counts of texts by what their last line says.
+#[derive(Default)]
+struct Endings {
+    refused: [usize; 10],
+    with_form: usize,
+}
+
+impl Endings {
+    fn add(&mut self, text: &str) {
+        let last = text.lines().last().expect("a text has a line");
+        match last.strip_prefix("refused ") {
+            Some(number) => self.refused[number.parse::<usize>().expect("a number")] += 1,
+            None => self.with_form += 1,
+        }
+    }
+
+    /// Prints the counts; some text must have had a form, and exactly these
+    /// refusals must have come up.
+    fn finish(self, expected: &[usize]) {
+        println!(
+            "texts with a form {}, by refusal from 0 on {:?}",
+            self.with_form, self.refused
+        );
+        let numbers = 0..self.refused.len();
+        let found: Vec<usize> = numbers.filter(|&number| self.refused[number] > 0).collect();
+        assert_eq!(found, expected);
+        assert!(self.with_form > 0);
+    }
+}
+
+/// Compares all the bytes; exactly these refusals must be printed.
+fn compare_all(
+    title: &'static str,
+    inputs: impl IntoIterator<Item = Vec<u8>>,
+    expected_refusals: &[usize],
+) {
+    let mut tally = Tally::new(title);
+    let mut endings = Endings::default();
+    for bytes in inputs {
+        let text = compare(&mut tally, &bytes);
+        endings.add(&text);
+    }
+    endings.finish(expected_refusals);
+    tally.finish(&[0, 7]);
+}
+
+#[test]
+fn every_small_table() {
+    let inputs = tables::small_tables().map(|table| stored::bytes_of(&table));
+    compare_all("report, every small table", inputs, &[]);
+}
+
+#[test]
+fn random_and_known_tables() {
+    let tables = tables::random_tables(180).chain(tables::known_tables());
+    let inputs = tables.map(|table| stored::bytes_of(&table));
+    compare_all("report, random and known tables", inputs, &[5]);
+}
+
+#[test]
+fn random_and_known_restrictions() {
+    let tables = tables::kept_tables(181, 5, 7).chain(tables::lifted_tables(182));
+    let inputs = tables.map(|table| stored::bytes_of(&table));
+    compare_all("report, random and known restrictions", inputs, &[5]);
+}
+
+#[test]
+fn damaged_short_tables() {
+    let mut generator = Generator::new(183);
+    let whole = stored::short_tables(&mut generator).into_iter();
+    let inputs = whole.flat_map(|bytes| stored::every_damage(&bytes));
+    compare_all("report, damaged short tables", inputs, &[1, 2, 3, 5, 8]);
+}
+
+#[test]
+fn damaged_long_tables() {
+    let mut generator = Generator::new(184);
+    let inputs = (7..=12).flat_map(|n| {
+        let table = generate::closed_table(&mut generator, n, n - 6, 50);
+        let bytes = stored::bytes_of(&table);
+        let damaged = stored::some_damages(&mut generator, &bytes);
+        [vec![bytes], damaged].concat()
+    });
+    compare_all("report, damaged long tables", inputs, &[1, 2, 3, 5, 8]);
+}
+
+#[test]
+fn longest_tables() {
+    compare_all("report, longest tables", stored::longest(), &[1, 2, 5, 8]);
+}
+
+#[test]
+fn faulty_points() {
+    let inputs = stored::faulty_points();
+    compare_all("report, faulty points", inputs, &[1, 2, 3, 5]);
+}
+
+#[test]
+fn random_records() {
+    let mut generator = Generator::new(185);
+    let inputs = (0..20_000).flat_map(|_| {
+        let mostly_right = stored::random_records(&mut generator);
+        [mostly_right, generate::random_records(&mut generator, 6)]
+    });
+    compare_all("report, random records", inputs, &[1, 2, 3, 5, 8]);
+}
+
+/// The longest texts are those of 12 variables without a form; the line of the
+/// restriction then has up to 4,095 points.
+#[test]
+fn longest_texts() {
+    let mut tally = Tally::new("report, longest texts");
+    let mut longest = 0;
+    for off in [0, 1, 2048, 4095] {
+        let table = generate::table_of(12, |point| point != off);
+        let text = compare(&mut tally, &stored::bytes_of(&table));
+        assert!(text.ends_with(if off == 4095 {
+            " 4094\nrefused 5\n"
+        } else {
+            " 4095\nrefused 5\n"
+        }));
+        longest = longest.max(text.len());
+    }
+    println!("longest text: {longest} bytes");
+    tally.finish(&[0, 7]);
+}
