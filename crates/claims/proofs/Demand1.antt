@@ -21,7 +21,9 @@ use Rattle.cubes.specs.Lists.{keep}
 use Rattle.cubes.specs.Listing.{Answer, answer, listingRoom}
 use Rattle.writing.specs.declared.FormWritten.{FormWritten}
 use Rattle.writing.specs.Writing.{writeAnswer, writeAfter}
+use Rattle.report.specs.declared.ReportWritten.{ReportWritten}
 use Rattle.report.specs.Report.{reportText}
+use Rattle.report.specs.Answer.{reportAnswer, reportAfter}
 use Rattle.glospruma.specs.declared.LinearSpace.{LinearSpace}
 use Rattle.glospruma.specs.declared.Completion.{Completion}
 use Rattle.glospruma.specs.declared.Analysis.{Analysis}
@@ -51,7 +53,7 @@ module _ {A : Type 0} (numbers : List ℕ) (tests : List Test) (accepted : A) (r
 -- ---- the calls
 
 pub demand1 : Demand1
-unfolding holds keep tableTests readAnswer onAfter freeAfter answer listingRoom pointsAnswer pointsAfter rewriteAnswer rewriteAfter writeAnswer writeAfter storedFault reportText
+unfolding holds keep tableTests readAnswer onAfter freeAfter answer listingRoom pointsAnswer pointsAfter rewriteAnswer rewriteAfter writeAnswer writeAfter storedFault reportText reportAnswer reportAfter
 demand1 = record {
   read-table = λ bytes on free. carries _ _ _ _ _ refl refl refl refl (λ (r : TableRead). r .refusal) refl (λ k. refl);
   linear-space = λ n on. carries _ _ _ _ _ refl refl refl refl (λ (r : LinearSpace). r .refusal) refl (λ k. refl);
@@ -62,6 +64,7 @@ demand1 = record {
   write-form = λ n on free lent. carries _ _ _ _ _ refl refl refl refl (λ (r : FormWritten). r .refusal) refl (λ k. refl);
   list-primes = λ c. carries _ _ _ _ _ refl refl refl refl (λ (r : Answer). r .refusal) refl (λ k. refl);
   form-points = λ bytes lent. carries _ _ _ _ _ refl refl refl refl (λ (r : FormPoints). r .refusal) refl (λ k. refl);
-  report = λ bytes. decides _ _ _ _ _ refl refl refl refl;
   form-rewrite = λ bytes lent. carries _ _ _ _ _ refl refl refl refl (λ (r : FormRewrite). r .refusal) refl (λ k. refl);
+  report = λ bytes. decides _ _ _ _ _ refl refl refl refl;
+  write-report = λ bytes lent. carries _ _ _ _ _ refl refl refl refl (λ (r : ReportWritten). r .refusal) refl (λ k. refl);
 }

@@ -21,6 +21,7 @@ use Rattle.cubes.specs.Records.{recordsOf}
 use Rattle.cubes.specs.Listing.{Call, listing, listingTests, accepting, refusing, answer, listingRoom}
 use Rattle.writing.specs.Writing.{formBytes, writeTests, writeAccepted, writeRefused, writeAnswer, writeAfter}
 use Rattle.report.specs.Report.{refusedLine, tableText, reportText}
+use Rattle.report.specs.Answer.{reportTests, reportAccepted, reportRefused, reportAnswer, reportAfter}
 use Rattle.glospruma.specs.Spaces.{linearSpaceTests, linearSpaceAccepted, linearSpaceRefused, linearSpaceAnswer, completeTests, completeAccepted, completeRefused, completeAnswer, completeRoom, completedRestriction, analyseTests, analyseAccepted, analyseRefused, analyseAnswer, analyseRoom}
 use Rattle.glospruma.specs.Affine.{projected, affineTests, affineAccepted, affineRefused, affineAnswer, affineRoom}
 
@@ -92,7 +93,12 @@ pub record Demand1 : Type 0 where
       → Decides (8 ∷ 7 ∷ []) (rewriteTests bytes lent) (rewriteAnswer bytes lent .refusal)
       (acceptedRewrite bytes) refusedRewrite (rewriteAnswer bytes lent)
       (room (rewritten bytes) lent (rewriteAfter bytes lent) ∷ [])
-  -- The printed report has no room and no fields: a table refused prints `refused N` and nothing else. Where only the form is refused, 5 stands in it.
+  -- The printed report: a table refused prints `refused N` and nothing else, and where only the form is refused, 5 stands in the text.
   pub report : (bytes : List ℕ)
       → Decides (8 ∷ 1 ∷ 2 ∷ 3 ∷ []) (storedTests bytes) (storedFault bytes)
       (tableText (storedVariables bytes) (storedOn bytes) (storedFree bytes)) refusedLine (reportText bytes) []
+  -- The call that gives it is refused only where the text is longer than the room.
+  pub write-report : (bytes lent : List ℕ)
+      → Decides (7 ∷ []) (reportTests bytes lent) (reportAnswer bytes lent .refusal)
+      (reportAccepted bytes) reportRefused (reportAnswer bytes lent)
+      (room (reportText bytes) lent (reportAfter bytes lent) ∷ [])

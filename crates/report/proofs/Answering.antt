@@ -9,7 +9,7 @@ use native.Mathlib.Decide.{ℕ-discrete, decLt}
 use native.Mathlib.Omega.{arith}
 use lib.Dec.{ltb}
 use lib.Pow.{pow-mono}
-use lib.ListN.{length, take, drop, replicate, length-replicate}
+use lib.ListN.{length, take, drop}
 use lib.Seq.{sets, sets-eq, take-at}
 use borrow.Author.Tests.{le-ltb}
 use Rattle.gf2.proofs.Finite.{rising-length}
@@ -52,15 +52,12 @@ pub stored-low : (bytes : List ℕ) → storedFault bytes < 100
 unfolding storedFault numbersOf
 stored-low bytes = omega (arith, fault-low (storedTests bytes))
 
-pub report-room : (bytes room : List ℕ) → textRoom ≤ length room → HasRoom room 0 (reportText bytes)
-report-room bytes room h = record { fits = omega (arith, report-fits bytes (stored-low bytes)) }
+-- A room of `textRoom` bytes is long enough.
+pub report-long : (bytes room : List ℕ) → length room ≡ textRoom → length (reportText bytes) ≤ length room
+report-long bytes room e = omega (arith, report-fits bytes (stored-low bytes))
 
--- A local array of that many bytes has room.
-pub report-fresh : (bytes : List ℕ) → HasRoom (replicate textRoom 0) 0 (reportText bytes)
-report-fresh bytes = report-room bytes (replicate textRoom 0) (let n = length-replicate {A = ℕ} textRoom 0 in omega arith)
-
-pub report-long : (bytes : List ℕ) → length (reportText bytes) ≤ length {A = ℕ} (replicate textRoom 0)
-report-long bytes = let n = length-replicate {A = ℕ} textRoom 0 in omega (arith, report-fits bytes (stored-low bytes))
+pub report-room : (bytes room : List ℕ) → length room ≡ textRoom → HasRoom room 0 (reportText bytes)
+report-room bytes room e = record { fits = omega (arith, report-long bytes room e) }
 
 -- The lists of a table without fault fit into rooms for every point.
 stored-few : (bytes : List ℕ) → storedFault bytes ≡ 0 → (length (storedOn bytes) ≤ maxPoints) × (length (storedFree bytes) ≤ maxPoints)

@@ -21,7 +21,7 @@ ghost use Rattle.text.specs.Writing.{HasRoom, Wrote};
 ghost use Rattle.lines.specs.Words.{canonicalWord};
 ghost use Rattle.lines.specs.Lines.{numbersLine, equationLines, productLine};
 ghost use Rattle.report.specs.Report.{spaceText, tableText, reportText};
-ghost use Rattle.report.specs.Answer.{reportRefused, reportAnswer, reportAfter};
+ghost use Rattle.report.specs.Answer.{textRoom, reportAnswer, reportAfter};
 ghost use Rattle.report.specs.Parts.{productBy, choiceText, Writable, formLines, functionText, Spans, Restricts};
 
 // Room enough for every report, as `textRoom` in specs/: at most 4,096 points of 5 bytes, or 62 products of at most 6 factors of 12 variables.
@@ -220,12 +220,19 @@ fn report_text(bytes: &[u8], room: &mut [u8]) -> usize
     )
 }
 
+// Bytes enough for every report; what they hold is of no account.
+fn text_room() -> [u8; TEXT_ROOM]
+    ensures { λ r. ⌜ length r ≡ textRoom ⌝ }
+{
+    [0; TEXT_ROOM]
+}
+
 // The report of the bytes of a stored table, at the front of the room. Refusal 7.
 pub fn write_report(bytes: &[u8], room: &mut [u8]) -> ReportWritten
     ensures { λ r. ⌜ r ≡ reportAnswer (now (bytes .entry)) (now (room .entry)) ⌝ }
     ensures { λ r. ⌜ now (room .exit) ≡ reportAfter (now (bytes .entry)) (now (room .entry)) ⌝ }
 {
-    let mut written = [0u8; TEXT_ROOM];
+    let mut written = text_room();
     let length = report_text(bytes, &mut written);
     if room.len() < length {
         return ReportWritten {
