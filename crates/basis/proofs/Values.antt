@@ -5,7 +5,7 @@ use mathlib.Core.List.{List, [], _∷_, _++_, append-assoc}
 use Prim.Native.Nat.{ℕ, suc, _+_, _-_, _^_, _≤_, _<_}
 use native.Mathlib.Numerals.{add-one}
 use native.Mathlib.Omega.{arith}
-use lib.ListN.{length, drop, set, getD, replicate, length-append, length-replicate, drop-of-length-le}
+use lib.ListN.{length, take, drop, set, getD, replicate, length-append, length-replicate, drop-of-length-le}
 use lib.Seq.{take-append-seam, set-append-seam, drop-cons, getD-take}
 use Rattle.gf2.specs.Limits.{maxVariables}
 use Rattle.gf2.specs.Finite.{Mem}
@@ -44,6 +44,13 @@ short-again s vs e = e ∙ ap short (sym (short-listed s vs e))
 
 pub short-len : (s : ShortList) (vs : List ℕ) → s ≡ short vs → s .len ≡ length vs
 short-len s vs e = ap (λ (x : ShortList). x .len) e
+
+-- The part of its array that is in use is the list.
+pub short-part : (s : ShortList) (vs : List ℕ) → s ≡ short vs → take (s .len - 0) (s .values) ≡ vs
+short-part s vs e = let z : s .len - 0 ≡ s .len = omega arith in rw z (short-listed s vs e)
+
+pub short-fits : (s : ShortList) (vs : List ℕ) → s ≡ short vs → s .len ≤ length (s .values)
+short-fits s vs e = omega (arith, short-len s vs e, ap (λ (x : ShortList). length (x .values)) e, length-append vs (replicate (maxVariables - length vs) 0))
 
 -- ---- bases
 

@@ -201,7 +201,7 @@ impl Basis {
 const ALL_PLACES: u16 = 0xFFFF;
 
 // The variables of n whose bit is set in the mask, by index, rising. x1 is the highest bit.
-fn variables_of(mask: u16, n: usize) -> ShortList
+pub fn variables_of(mask: u16, n: usize) -> ShortList
     requires { ⌜ n ≤ maxVariables ⌝ }
     ensures { λ r. ⌜ r ≡ short (variablesAt n (placesAt n (λ (k : ℕ). bit k mask))) ⌝ }
 {

@@ -2,8 +2,7 @@
 use mathlib.Core.Path.{_≡_, refl, sym, ap, ap₂, _∙_}
 use mathlib.Core.Logic.{_≢_}
 use mathlib.Core.List.{List, [], _∷_}
-use Prim.Native.Nat.{ℕ, _≤_, _<_}
-use native.Mathlib.Omega.{arith}
+use Prim.Native.Nat.{ℕ, _<_}
 use borrow.Author.Tests.{eq-eqb, ne-eqb}
 use lib.Dec.{eqb}
 use lib.ListN.{length, getD, length-map}
@@ -12,12 +11,11 @@ use Rattle.gf2.specs.Basis.{Reduced, reduce, leadMask, canonicalPlaces}
 use Rattle.basis.specs.declared.Basis.{Basis}
 use Rattle.basis.specs.Reduced.{vectorsOf, basisOf}
 use Rattle.basis.proofs.Values.{vectors-back}
-use Rattle.table.specs.Refusal.{test, firstFault, Numbered, affineFault, roomFault}
-use Rattle.table.specs.Decision.{front}
+use Rattle.table.specs.Refusal.{test, firstFault, Numbered, affineFault}
 use Rattle.table.specs.Table.{tableTests, tableFault}
 use Rattle.table.proofs.Refusal.{numbered}
 use Rattle.table.proofs.Table.{table-numbered}
-use Rattle.table.proofs.Decide.{table-refused, table-passed, call-refused, call-short, call-accepted}
+use Rattle.table.proofs.Decide.{table-refused, table-passed, Ways, ways}
 use Rattle.space.specs.Restriction.{project}
 use Rattle.space.specs.Affine.{directions, projection}
 use Rattle.projection.specs.Masks.{projected as byMask}
@@ -65,24 +63,7 @@ module _ (n : ℕ) (on : List ℕ) (b : Basis) (value : b ≡ basisOf (direction
       ap (λ (x : ℕ). byMask n x on) e ∙ projected-projection n (vectorsOf b) r on
       ∙ ap (λ bs. projection n bs on) (ap vectorsOf value ∙ vectors-back (directions on))
 
--- ---- the ways out of a call
+-- ---- the three ways out of a call
 
-module _ (n : ℕ) (on room : List ℕ) where
-  pub affine-refused : (k : ℕ) → k ≡ firstFault (onTests n on) → k ≢ 0 → (x : Affine) → x ≡ affineRefused k
-      → (x ≡ affineAnswer n on room) × (room ≡ affineRoom n on room)
-  affine-refused k e z x q =
-      let p = call-refused (onTests n on) (projected n on) room (affineAccepted n on) affineRefused k e z in
-      (q ∙ p .0, p .1)
-
-  pub affine-short : firstFault (onTests n on) ≡ 0 → length room < length on → (x : Affine) → x ≡ affineRefused roomFault
-      → (x ≡ affineAnswer n on room) × (room ≡ affineRoom n on room)
-  affine-short e l x q =
-      let p = call-short (onTests n on) (projected n on) room (affineAccepted n on) affineRefused (on-numbered n on) e (omega (arith, projected-all n on)) in
-      (q ∙ p .0, p .1)
-
-  pub affine-accepted : firstFault (onTests n on) ≡ 0 → length on ≤ length room → (x : Affine) (after : List ℕ)
-      → x ≡ affineAccepted n on → after ≡ front (projected n on) room
-      → (x ≡ affineAnswer n on room) × (after ≡ affineRoom n on room)
-  affine-accepted e l x after q r =
-      let p = call-accepted (onTests n on) (projected n on) room (affineAccepted n on) affineRefused (on-numbered n on) e (omega (arith, projected-all n on)) in
-      (q ∙ p .0, r ∙ p .1)
+pub affine-ways : (n : ℕ) (on room : List ℕ) → Ways (firstFault (onTests n on)) (projected n on) room (affineAccepted n on) affineRefused (affineAnswer n on room) (affineRoom n on room)
+affine-ways n on room = ways (onTests n on) (projected n on) room (affineAccepted n on) affineRefused (on-numbered n on)

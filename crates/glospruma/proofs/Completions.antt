@@ -1,8 +1,7 @@
 -- The answers of `complete` and `analyse`, from a completed table. Read next: AffineSpaces.
 use mathlib.Core.Path.{_≡_, ap, _∙_}
-use mathlib.Core.Logic.{_≢_}
 use mathlib.Core.List.{List}
-use Prim.Native.Nat.{ℕ, _^_, _≤_, _<_}
+use Prim.Native.Nat.{ℕ, _^_}
 use lib.ListN.{length}
 use Rattle.gf2.specs.Basis.{leadMask, canonicalPlaces, variablesAt}
 use Rattle.gf2.proofs.Finite.{select-ext}
@@ -11,10 +10,8 @@ use Rattle.basis.specs.declared.ShortList.{ShortList}
 use Rattle.basis.specs.Short.{short}
 use Rattle.basis.specs.Reduced.{vectorsOf, basisOf}
 use Rattle.basis.proofs.Values.{vectors-back}
-use Rattle.table.specs.Refusal.{roomFault}
-use Rattle.table.specs.Decision.{front}
 use Rattle.table.specs.Table.{tableTests, tableFault}
-use Rattle.table.proofs.Decide.{call-refused, call-short, call-accepted}
+use Rattle.table.proofs.Decide.{Ways, ways}
 use Rattle.table.proofs.Table.{table-numbered}
 use Rattle.space.specs.declared.Completed.{Completed}
 use Rattle.space.specs.Closure.{degree}
@@ -80,46 +77,10 @@ module _ (n : ℕ) (on free : List ℕ) (r : Completed) (k : IsCompleted n on fr
 -- ---- the three ways out of a call: refused for the table, refused for the room, accepted
 
 module _ (n : ℕ) (on free room : List ℕ) where
-  pub complete-refused : (k : ℕ) → k ≡ tableFault n on free → k ≢ 0 → (x : Completion) → x ≡ completeRefused k
-      → (x ≡ completeAnswer n on free room) × (room ≡ completeRoom n on free room)
+  pub complete-ways : Ways (tableFault n on free) (completedPoints n on free) room (completeAccepted n on free) completeRefused (completeAnswer n on free room) (completeRoom n on free room)
   unfolding tableFault
-  complete-refused k e z x q =
-      let p = call-refused (tableTests n on free) (completedPoints n on free) room (completeAccepted n on free) completeRefused k e z in
-      (q ∙ p .0, p .1)
+  complete-ways = ways (tableTests n on free) (completedPoints n on free) room (completeAccepted n on free) completeRefused (table-numbered n on free)
 
-  pub complete-short : tableFault n on free ≡ 0 → length room < length (completedPoints n on free) → (x : Completion) → x ≡ completeRefused roomFault
-      → (x ≡ completeAnswer n on free room) × (room ≡ completeRoom n on free room)
+  pub analyse-ways : Ways (tableFault n on free) (completedRestriction n on free) room (analyseAccepted n on free) analyseRefused (analyseAnswer n on free room) (analyseRoom n on free room)
   unfolding tableFault
-  complete-short e l x q =
-      let p = call-short (tableTests n on free) (completedPoints n on free) room (completeAccepted n on free) completeRefused (table-numbered n on free) e l in
-      (q ∙ p .0, p .1)
-
-  pub complete-accepted : tableFault n on free ≡ 0 → length (completedPoints n on free) ≤ length room → (x : Completion) (after : List ℕ)
-      → x ≡ completeAccepted n on free → after ≡ front (completedPoints n on free) room
-      → (x ≡ completeAnswer n on free room) × (after ≡ completeRoom n on free room)
-  unfolding tableFault
-  complete-accepted e l x after q r =
-      let p = call-accepted (tableTests n on free) (completedPoints n on free) room (completeAccepted n on free) completeRefused (table-numbered n on free) e l in
-      (q ∙ p .0, r ∙ p .1)
-
-  pub analyse-refused : (k : ℕ) → k ≡ tableFault n on free → k ≢ 0 → (x : Analysis) → x ≡ analyseRefused k
-      → (x ≡ analyseAnswer n on free room) × (room ≡ analyseRoom n on free room)
-  unfolding tableFault
-  analyse-refused k e z x q =
-      let p = call-refused (tableTests n on free) (completedRestriction n on free) room (analyseAccepted n on free) analyseRefused k e z in
-      (q ∙ p .0, p .1)
-
-  pub analyse-short : tableFault n on free ≡ 0 → length room < length (completedRestriction n on free) → (x : Analysis) → x ≡ analyseRefused roomFault
-      → (x ≡ analyseAnswer n on free room) × (room ≡ analyseRoom n on free room)
-  unfolding tableFault
-  analyse-short e l x q =
-      let p = call-short (tableTests n on free) (completedRestriction n on free) room (analyseAccepted n on free) analyseRefused (table-numbered n on free) e l in
-      (q ∙ p .0, p .1)
-
-  pub analyse-accepted : tableFault n on free ≡ 0 → length (completedRestriction n on free) ≤ length room → (x : Analysis) (after : List ℕ)
-      → x ≡ analyseAccepted n on free → after ≡ front (completedRestriction n on free) room
-      → (x ≡ analyseAnswer n on free room) × (after ≡ analyseRoom n on free room)
-  unfolding tableFault
-  analyse-accepted e l x after q r =
-      let p = call-accepted (tableTests n on free) (completedRestriction n on free) room (analyseAccepted n on free) analyseRefused (table-numbered n on free) e l in
-      (q ∙ p .0, r ∙ p .1)
+  analyse-ways = ways (tableTests n on free) (completedRestriction n on free) room (analyseAccepted n on free) analyseRefused (table-numbered n on free)

@@ -2,4 +2,3 @@
 pub mod LinearSpaces
 pub mod Completions
 pub mod AffineSpaces
-pub mod Refusals

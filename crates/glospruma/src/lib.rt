@@ -7,6 +7,8 @@ ghost use Rattle.stored.specs.Reading.{readAnswer, onAfter, freeAfter};
 ghost use Rattle.form.specs.Reading.{pointsAnswer, pointsAfter, rewriteAnswer, rewriteAfter};
 ghost use Rattle.cubes.specs.Listing.{answer, listingRoom};
 ghost use Rattle.listing.specs.Answers.{callOf, numbersOf};
+ghost use Rattle.writing.specs.Writing.{writeAnswer, writeAfter};
+ghost use Rattle.report.specs.Answer.{reportAnswer, reportAfter};
 ghost use Rattle.glospruma.specs.Spaces.{linearSpaceAnswer, completeRefused, completeAnswer, completeRoom, analyseRefused, analyseAnswer, analyseRoom};
 ghost use Rattle.glospruma.specs.Affine.{affineRefused, affineAnswer, affineRoom};
 use basis::Basis;
@@ -14,9 +16,11 @@ use basis::ShortList;
 use form::FormPoints;
 use form::FormRewrite;
 use listing::Listed;
+use report::ReportWritten;
 use stored::TableRead;
 use table::AFFINE_FAULT;
 use table::ROOM_FAULT;
+use writing::FormWritten;
 
 // The linear space of a complete function: its degree and its reduced basis.
 #[repr(C)]
@@ -259,4 +263,27 @@ pub extern "C" fn glospruma_list_primes(
     ensures { λ r. ⌜ now (room .exit) ≡ listingRoom (callOf n (now (on .entry)) (now (free .entry)) place allowance (now (room .entry))) ⌝ }
 {
     listing::list_primes(n, on, free, place, allowance, &mut *room)
+}
+
+// The form of a table, at the front of the room: its bytes and its products are counted. Refusals 1, 2, 3, 4, 5, then 7.
+#[no_mangle]
+pub extern "C" fn glospruma_write_form(
+    n: usize,
+    on: &[u16],
+    free: &[u16],
+    room: &mut [u8],
+) -> FormWritten
+    ensures { λ r. ⌜ r ≡ writeAnswer n (now (on .entry)) (now (free .entry)) (now (room .entry)) ⌝ }
+    ensures { λ r. ⌜ now (room .exit) ≡ writeAfter n (now (on .entry)) (now (free .entry)) (now (room .entry)) ⌝ }
+{
+    writing::write_form(n, on, free, &mut *room)
+}
+
+// The printed report of a stored table, at the front of the room; a refused table has a report too. Refusal 7.
+#[no_mangle]
+pub extern "C" fn glospruma_report(bytes: &[u8], room: &mut [u8]) -> ReportWritten
+    ensures { λ r. ⌜ r ≡ reportAnswer (now (bytes .entry)) (now (room .entry)) ⌝ }
+    ensures { λ r. ⌜ now (room .exit) ≡ reportAfter (now (bytes .entry)) (now (room .entry)) ⌝ }
+{
+    report::write_report(bytes, &mut *room)
 }

@@ -1,9 +1,11 @@
 // Records of the written form (document 01, "The written form"): one byte of kind, then a body whose length the kind fixes; wider
-// numbers are low byte first. The readers of stored tables and of forms both go by these functions. Read next: specs/Kinds.antt.
+// numbers are low byte first. The readers of stored tables and of forms and the writer of forms go by these functions. Read next: specs/Kinds.antt.
 ghost use mathlib.Core.Path.{_≡_};
-ghost use Prim.Native.Nat.{_+_, _<_};
+ghost use mathlib.Core.List.{[], _∷_};
+ghost use Prim.Native.Nat.{_+_, _≤_, _<_};
 ghost use lib.ListN.{length, drop};
-ghost use Rattle.records.specs.Kinds.{kindOf, bodyOf, wordOf};
+ghost use lib.Seq.{sets};
+ghost use Rattle.records.specs.Kinds.{kindOf, bodyOf, wordOf, lowByte, highByte, encodeEnd};
 ghost use Rattle.records.specs.Walks.{bodyStep, endStep, layoutOf};
 
 // The kind bytes, as the constants of the same names in specs/.
@@ -71,6 +73,24 @@ pub fn word(low: u8, high: u8) -> u16
     ensures { λ r. ⌜ r ≡ wordOf low high ⌝ }
 {
     (low as u16) + 256 * (high as u16)
+}
+
+// A number of two bytes at a place, low byte first.
+pub fn put_word(room: &mut [u8], at: usize, word: u16)
+    requires { ⌜ at + 2 ≤ length (now room) ⌝ }
+    ensures { λ _. ⌜ now (room .exit) ≡ sets (now (room .entry)) at (lowByte word ∷ highByte word ∷ []) ⌝ }
+{
+    room[at] = (word % 256) as u8;
+    room[at + 1] = (word / 256) as u8;
+}
+
+// The end record at a place, with the number of points or products.
+pub fn put_end(room: &mut [u8], at: usize, count: u16)
+    requires { ⌜ at + 3 ≤ length (now room) ⌝ }
+    ensures { λ _. ⌜ now (room .exit) ≡ sets (now (room .entry)) at (encodeEnd count) ⌝ }
+{
+    room[at] = END_KIND;
+    put_word(&mut *room, at + 1, count);
 }
 
 // What a walk over the bytes of a table or a form finds: what is asked for, with its number of points or products, or the first fault from

@@ -19,14 +19,18 @@ decide-accepted ts a r e = rw (eq-eqb (firstFault ts) 0 e)
 pub decide-refused : {A : Type 0} (ts : List Test) (a : A) (r : ℕ → A) (k : ℕ) → k ≢ 0 → firstFault ts ≡ k → decide ts a r ≡ r k
 decide-refused ts a r k n e = rw (e, ne-eqb k 0 n)
 
--- The refusal number that an answer carries is exact.
+-- The refusal number that an answer carries is that of the first test that applies.
+pub decide-number : {A : Type 0} (number : A → ℕ) (ts : List Test) (a : A) (r : ℕ → A) → number a ≡ 0 → ((k : ℕ) → number (r k) ≡ k) → number (decide ts a r) ≡ firstFault ts
+decide-number number ts a r z s = go (ℕ-discrete (firstFault ts) 0)
+  where
+    go : Dec (firstFault ts ≡ 0) → number (decide ts a r) ≡ firstFault ts
+    go (yes e) = ap number (decide-accepted ts a r e) ∙ z ∙ sym e
+    go (no n) = ap number (decide-refused ts a r (firstFault ts) n refl) ∙ s (firstFault ts)
+
+-- So it is exact.
 pub decide-exact : {A : Type 0} (number : A → ℕ) (ts : List Test) (a : A) (r : ℕ → A) → Numbered ts → number a ≡ 0 → ((k : ℕ) → number (r k) ≡ k)
     → Exact ts (number (decide ts a r))
-decide-exact {A} number ts a r h z k = rw (given (ℕ-discrete (firstFault ts) 0)) (record { refused = fault-first ts; accepted = no-fault ts h })
-  where
-    given : Dec (firstFault ts ≡ 0) → number (decide ts a r) ≡ firstFault ts
-    given (yes e) = ap number (decide-accepted ts a r e) ∙ z ∙ sym e
-    given (no n) = ap number (decide-refused ts a r (firstFault ts) n refl) ∙ k (firstFault ts)
+decide-exact number ts a r h z s = rw (decide-number number ts a r z s) (record { refused = fault-first ts; accepted = no-fault ts h })
 
 -- ---- tests of the table first, then one of the room
 
@@ -70,3 +74,18 @@ module _ {A B : Type 0} (ts : List Test) (answer room : List B) (accepted : A) (
   call-accepted h e l =
       let f = table-passed ts (roomTest answer room) h e ∙ room-enough answer room l in
       (sym (decide-accepted tests accepted refused f), sym (decide-accepted tests (front answer room) (λ r. room) f))
+
+-- The three ways out of such a call, said of the value x that it returns and of its room after it: the fault of the tests before the room's, a room
+-- that is too short, and the answer at the front of the room.
+pub record Ways {A B : Type 0} (fault : ℕ) (answer room : List B) (accepted : A) (refused : ℕ → A) (returned : A) (left : List B) : Type 0 where
+  pub faulty : (k : ℕ) → k ≡ fault → k ≢ 0 → (x : A) → x ≡ refused k → (x ≡ returned) × (room ≡ left)
+  pub short : fault ≡ 0 → length room < length answer → (x : A) → x ≡ refused roomFault → (x ≡ returned) × (room ≡ left)
+  pub whole : fault ≡ 0 → length answer ≤ length room → (x : A) (after : List B) → x ≡ accepted → after ≡ front answer room → (x ≡ returned) × (after ≡ left)
+
+pub ways : {A B : Type 0} (ts : List Test) (answer room : List B) (accepted : A) (refused : ℕ → A) → Numbered ts
+    → Ways (firstFault ts) answer room accepted refused (decide (ts ++ roomTest answer room) accepted refused) (roomAfter (ts ++ roomTest answer room) answer room)
+ways ts answer room accepted refused h = record {
+  faulty = λ k e n x q. let p = call-refused ts answer room accepted refused k e n in (q ∙ p .0, p .1);
+  short = λ e l x q. let p = call-short ts answer room accepted refused h e l in (q ∙ p .0, p .1);
+  whole = λ e l x after q r. let p = call-accepted ts answer room accepted refused h e l in (q ∙ p .0, r ∙ p .1);
+}

@@ -8,7 +8,7 @@ use native.Mathlib.Omega.{arith}
 use borrow.Author.Needs.{needs}
 use Rattle.table.specs.Decision.{front}
 use Rattle.table.proofs.Table.{accepted, on-flags}
-use Rattle.glospruma.proofs.AffineSpaces.{on-refused, on-empty, on-passed, affine-numbers, affine-projected, affine-refused, affine-short, affine-accepted}
+use Rattle.glospruma.proofs.AffineSpaces.{on-refused, on-empty, on-passed, projected-all, affine-numbers, affine-projected, affine-ways}
 use Rattle.glospruma.proofs.glospruma_affine.Statement.{statement}
 use Rattle.glospruma.proofs.glospruma_affine.Tie as tie
 
@@ -31,7 +31,7 @@ returns : tie.Need-returns
 returns c =
     let a = c .before .before .before .before .before .before .args in
     let d = c .before .before .table-fault in
-    affine-refused (a .n) (a .on .now) (a .room .now) (d .result) (on-refused (a .n) (a .on .now) (d .result) (d .ensures) (c .before .if1 .taken)) (c .before .if1 .taken)
+    affine-ways (a .n) (a .on .now) (a .room .now) .faulty (d .result) (on-refused (a .n) (a .on .now) (d .result) (d .ensures) (c .before .if1 .taken)) (c .before .if1 .taken)
     (c .no-affine .result) (c .no-affine .ensures)
 
 no-affine-requires-2 : tie.Need-no-affine-requires-2
@@ -40,7 +40,7 @@ no-affine-requires-2 c κs = search needs
 returns-2 : tie.Need-returns-2
 returns-2 c =
     let a = c .before .before .before .before .before .before .before .args in
-    affine-refused (a .n) (a .on .now) (a .room .now) _ (on-empty (a .n) (a .on .now) (sym (c .before .before .before .table-fault .ensures) ∙ c .before .before .if1 .left) (c .before .if2 .taken)) (λ z. omega arith)
+    affine-ways (a .n) (a .on .now) (a .room .now) .faulty _ (on-empty (a .n) (a .on .now) (sym (c .before .before .before .table-fault .ensures) ∙ c .before .before .if1 .left) (c .before .if2 .taken)) (λ z. omega arith)
     (c .no-affine2 .result) (c .no-affine2 .ensures)
 
 no-affine-requires-3 : tie.Need-no-affine-requires-3
@@ -49,7 +49,7 @@ no-affine-requires-3 c κs = search needs
 returns-3 : tie.Need-returns-3
 returns-3 c =
     let a = c .before .before .before .before .before .before .before .before .args in
-    affine-short (a .n) (a .on .now) (a .room .now) (on-passed (a .n) (a .on .now) (sym (c .before .before .before .before .table-fault .ensures) ∙ c .before .before .before .if1 .left) (c .before .before .if2 .left)) (omega arith)
+    affine-ways (a .n) (a .on .now) (a .room .now) .short (on-passed (a .n) (a .on .now) (sym (c .before .before .before .before .table-fault .ensures) ∙ c .before .before .before .if1 .left) (c .before .before .if2 .left)) (omega (arith, projected-all (a .n) (a .on .now)))
     (c .no-affine3 .result) (c .no-affine3 .ensures)
 
 directions-requires : tie.Need-directions-requires
@@ -82,7 +82,7 @@ returns-4 c =
     let least = c .before .before .before .before .before .reduce in
     let l = c .before .before .before .before .leads in
     let some = c .before .before .before .before .before .before .before .before .before .if2 .left in
-    affine-accepted (a .n) (a .on .now) (a .room .now) (on-passed (a .n) (a .on .now) (sym (c .before .before .before .before .before .before .before .before .before .before .before .table-fault .ensures) ∙ c .before .before .before .before .before .before .before .before .before .before .if1 .left) some) (omega arith) _ _
+    affine-ways (a .n) (a .on .now) (a .room .now) .whole (on-passed (a .n) (a .on .now) (sym (c .before .before .before .before .before .before .before .before .before .before .before .table-fault .ensures) ∙ c .before .before .before .before .before .before .before .before .before .before .if1 .left) some) (omega (arith, projected-all (a .n) (a .on .now))) _ _
     (affine-numbers (a .n) (a .on .now) (d .result) (built .value) (pos-of-ne-zero some) (least .result) (least .ensures))
     (c .before .before .write-projection .ensures
     ∙ ap (λ (x : List ℕ). front x (a .room .now)) (affine-projected (a .n) (a .on .now) (d .result) (built .value) (built .basis .reduced) (l .result) (l .ensures)))

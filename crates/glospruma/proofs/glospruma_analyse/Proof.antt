@@ -8,7 +8,7 @@ use borrow.Author.Needs.{needs}
 use lib.ListN.{length}
 use Rattle.table.specs.Decision.{front}
 use Rattle.table.proofs.Table.{accepted}
-use Rattle.glospruma.proofs.Completions.{restriction-kept, analyse-numbers, analyse-refused, analyse-short, analyse-accepted}
+use Rattle.glospruma.proofs.Completions.{restriction-kept, analyse-numbers, analyse-ways}
 use Rattle.glospruma.proofs.glospruma_analyse.Statement.{statement}
 use Rattle.glospruma.proofs.glospruma_analyse.Tie as tie
 
@@ -22,7 +22,7 @@ returns : tie.Need-returns
 returns c =
     let a = c .before .before .before .before .before .before .args in
     let d = c .before .before .table-fault in
-    analyse-refused (a .n) (a .on .now) (a .free .now) (a .room .now) (d .result) (d .ensures) (c .before .if1 .taken) (c .no-analysis .result) (c .no-analysis .ensures)
+    analyse-ways (a .n) (a .on .now) (a .free .now) (a .room .now) .faulty (d .result) (d .ensures) (c .before .if1 .taken) (c .no-analysis .result) (c .no-analysis .ensures)
 
 complete-requires : tie.Need-complete-requires
 complete-requires c κs =
@@ -46,7 +46,7 @@ returns-2 c =
     let d = c .before .before .before .before .before .before .before .complete in
     let l = c .before .before .before .before .leads in
     let count = c .before .before .count-kept .ensures ∙ ap length (restriction-kept (a .n) (a .on .now) (a .free .now) (d .result) (d .ensures) (l .result) (l .ensures)) in
-    analyse-short (a .n) (a .on .now) (a .free .now) (a .room .now) (sym (c .before .before .before .before .before .before .before .before .before .table-fault .ensures) ∙ c .before .before .before .before .before .before .before .before .if1 .left) (omega arith) (c .no-analysis2 .result) (c .no-analysis2 .ensures)
+    analyse-ways (a .n) (a .on .now) (a .free .now) (a .room .now) .short (sym (c .before .before .before .before .before .before .before .before .before .table-fault .ensures) ∙ c .before .before .before .before .before .before .before .before .if1 .left) (omega arith) (c .no-analysis2 .result) (c .no-analysis2 .ensures)
 
 write-kept-requires : tie.Need-write-kept-requires
 write-kept-requires c κs =
@@ -74,7 +74,7 @@ returns-3 c =
     let count = c .before .before .before .before .before .before .before .before .count-kept in
     let kept = restriction-kept (a .n) (a .on .now) (a .free .now) (d .result) (d .ensures) (l .result) (l .ensures) in
     let long = count .ensures ∙ ap length kept in
-    analyse-accepted (a .n) (a .on .now) (a .free .now) (a .room .now) (sym (c .before .before .before .before .before .before .before .before .before .before .before .before .before .before .before .table-fault .ensures) ∙ c .before .before .before .before .before .before .before .before .before .before .before .before .before .before .if1 .left) (omega arith) _ _
+    analyse-ways (a .n) (a .on .now) (a .free .now) (a .room .now) .whole (sym (c .before .before .before .before .before .before .before .before .before .before .before .before .before .before .before .table-fault .ensures) ∙ c .before .before .before .before .before .before .before .before .before .before .before .before .before .before .if1 .left) (omega arith) _ _
     (analyse-numbers (a .n) (a .on .now) (a .free .now) (d .result) (d .ensures) (count .result) (l .result) (c .before .canonical .result) (c .equations .result)
     (l .ensures) (count .ensures) (c .before .canonical .ensures) (c .equations .ensures))
     (c .before .before .before .before .write-kept .ensures ∙ ap (λ (x : List ℕ). front x (a .room .now)) kept)

@@ -8,7 +8,7 @@ use borrow.Author.Needs.{needs}
 use lib.ListN.{length}
 use Rattle.table.specs.Decision.{front}
 use Rattle.table.proofs.Table.{accepted}
-use Rattle.glospruma.proofs.Completions.{points-kept, complete-numbers, complete-refused, complete-short, complete-accepted}
+use Rattle.glospruma.proofs.Completions.{points-kept, complete-numbers, complete-ways}
 use Rattle.glospruma.proofs.glospruma_complete.Statement.{statement}
 use Rattle.glospruma.proofs.glospruma_complete.Tie as tie
 
@@ -22,7 +22,7 @@ returns : tie.Need-returns
 returns c =
     let a = c .before .before .before .before .before .before .args in
     let d = c .before .before .table-fault in
-    complete-refused (a .n) (a .on .now) (a .free .now) (a .room .now) (d .result) (d .ensures) (c .before .if1 .taken) (c .no-completion .result) (c .no-completion .ensures)
+    complete-ways (a .n) (a .on .now) (a .free .now) (a .room .now) .faulty (d .result) (d .ensures) (c .before .if1 .taken) (c .no-completion .result) (c .no-completion .ensures)
 
 complete-requires : tie.Need-complete-requires
 complete-requires c κs =
@@ -42,7 +42,7 @@ returns-2 c =
     let a = c .before .before .before .before .before .before .before .before .before .before .before .before .args in
     let d = c .before .before .before .before .before .before .complete in
     let count = c .before .before .count-kept .ensures ∙ ap length (points-kept (a .n) (a .on .now) (a .free .now) (d .result) (d .ensures)) in
-    complete-short (a .n) (a .on .now) (a .free .now) (a .room .now) (sym (c .before .before .before .before .before .before .before .before .table-fault .ensures) ∙ c .before .before .before .before .before .before .before .if1 .left) (omega arith) (c .no-completion2 .result) (c .no-completion2 .ensures)
+    complete-ways (a .n) (a .on .now) (a .free .now) (a .room .now) .short (sym (c .before .before .before .before .before .before .before .before .table-fault .ensures) ∙ c .before .before .before .before .before .before .before .if1 .left) (omega arith) (c .no-completion2 .result) (c .no-completion2 .ensures)
 
 write-kept-requires : tie.Need-write-kept-requires
 write-kept-requires c κs =
@@ -59,7 +59,7 @@ returns-3 c =
     let kept = points-kept (a .n) (a .on .now) (a .free .now) (d .result) (d .ensures) in
     let count = c .before .before .before .before .before .before .count-kept in
     let long = count .ensures ∙ ap length kept in
-    complete-accepted (a .n) (a .on .now) (a .free .now) (a .room .now) (sym (c .before .before .before .before .before .before .before .before .before .before .before .before .table-fault .ensures) ∙ c .before .before .before .before .before .before .before .before .before .before .before .if1 .left) (omega arith) _ _
+    complete-ways (a .n) (a .on .now) (a .free .now) (a .room .now) .whole (sym (c .before .before .before .before .before .before .before .before .before .before .before .before .table-fault .ensures) ∙ c .before .before .before .before .before .before .before .before .before .before .before .if1 .left) (omega arith) _ _
     (complete-numbers (a .n) (a .on .now) (a .free .now) (d .result) (d .ensures) (count .result) (count .ensures))
     (c .before .before .write-kept .ensures ∙ ap (λ (l : List ℕ). front l (a .room .now)) kept)
 

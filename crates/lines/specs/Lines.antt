@@ -1,0 +1,56 @@
+-- The lines of the printed report, each with its newline (document 01, "The printed report").
+use mathlib.Core.List.{List, [], _∷_, _++_, flatMap}
+use Prim.Native.Nat.{ℕ, _+_}
+use Rattle.gf2.specs.Bits.{bit}
+use Rattle.gf2.specs.Basis.{placesAt, variablesAt}
+use Rattle.product.specs.Product.{Factor}
+use Rattle.text.specs.Decimal.{decimal}
+use Rattle.text.specs.Pieces.{spaced, names}
+use Rattle.lines.specs.Words.{blankWord, onWord, freeWord, equationLetter, equalsWord, plusWord, noneWord, productWord, oneWord, plusSign, equalsSign, lineEnd}
+
+-- A word and a number: `variables 4`, `degree 1`, `refused 5`.
+unfoldable pub numberLine : List ℕ → ℕ → List ℕ
+numberLine word n = word ++ (decimal n ++ lineEnd)
+
+-- `on 10 free 0`
+unfoldable pub countsLine : ℕ → ℕ → List ℕ
+countsLine on free = onWord ++ (decimal on ++ numberLine freeWord free)
+
+-- Numbers, each after one blank; an empty list prints as `-`.
+abbrev pub numbersText : List ℕ → List ℕ
+numbersText [] = noneWord
+numbersText (p ∷ ps) = spaced (p ∷ ps)
+
+-- A word and a list of numbers: `restriction 2 3 5 6 7`, `canonical -`.
+unfoldable pub numbersLine : List ℕ → List ℕ → List ℕ
+numbersLine word ps = word ++ (numbersText ps ++ lineEnd)
+
+-- The names of the variables of a mask, in index order: x1 is the highest of n places.
+unfoldable pub variablesText : List ℕ → ℕ → ℕ → List ℕ
+variablesText between n mask = names between (variablesAt n (placesAt n (λ k. bit k mask)))
+
+-- `y3 = x3 + x4`
+unfoldable pub equationLine : ℕ → ℕ → ℕ → List ℕ
+equationLine n index mask = equationLetter ++ (decimal index ++ (equalsWord ++ (variablesText plusWord n mask ++ lineEnd)))
+
+-- One such line for each mask, from the given index on.
+unfoldable pub equationLines : ℕ → ℕ → List ℕ → List ℕ
+equationLines n index [] = []
+equationLines n index (mask ∷ masks) = equationLine n index mask ++ equationLines n (index + 1) masks
+
+-- ` x1+x3+x4=0`, a factor after its blank.
+unfoldable pub factorText : ℕ → Factor → List ℕ
+factorText n f = blankWord ++ (variablesText plusSign n (f .mask) ++ (equalsSign ++ decimal (f .constant)))
+
+-- The factors in their order; a product without factors prints as `1`.
+abbrev pub productText : ℕ → List Factor → List ℕ
+productText n [] = oneWord
+productText n (f ∷ fs) = flatMap (factorText n) (f ∷ fs)
+
+-- `product x1+x2=1 x1+x3+x4=0`
+unfoldable pub productLine : ℕ → List Factor → List ℕ
+productLine n fs = productWord ++ (productText n fs ++ lineEnd)
+
+-- One such line for each product.
+unfoldable pub productLines : ℕ → List (List Factor) → List ℕ
+productLines n products = flatMap (productLine n) products

@@ -1,0 +1,68 @@
+-- `report::table_text` meets its contract: n, the counts, and the lines of the completed function. Assumes nothing.
+use mathlib.Core.Path.{sym}
+use mathlib.Core.List.{_++_}
+use borrow.Author.Needs.{needs}
+use lib.ListN.{length}
+use Rattle.space.specs.Closure.{linearSpace}
+use Rattle.space.specs.Completion.{completed}
+use Rattle.space.specs.Restriction.{restriction}
+use Rattle.text.proofs.Writing.{room-same, room-first, room-then, wrote-same, wrote-both}
+use Rattle.lines.specs.Words.{variablesWord}
+use Rattle.lines.specs.Lines.{numberLine, countsLine}
+use Rattle.report.specs.Parts.{functionText}
+use Rattle.report.proofs.Parts.{table-parts, completed-spans, completed-text}
+use Rattle.report.proofs.table_text.Statement.{statement}
+use Rattle.report.proofs.table_text.Tie as tie
+
+slice-aggregate-number-line : tie.Need-slice-aggregate-number-line
+slice-aggregate-number-line c = search needs
+
+number-line-requires : tie.Need-number-line-requires
+number-line-requires c κs =
+    let s = c .before .before .before .before .before in
+    let a = s .args in
+    let r0 = room-same (table-parts (a .n) (a .on .now) (a .free .now)) (s .pre .1) in
+    room-first (numberLine variablesWord (a .n)) (countsLine (length (a .on .now)) (length (a .free .now)) ++ functionText (a .n) (linearSpace (a .n) (completed (a .n) (a .on .now) (a .free .now))) (restriction (a .n) (linearSpace (a .n) (completed (a .n) (a .on .now) (a .free .now))) (completed (a .n) (a .on .now) (a .free .now)))) r0
+
+counts-line-requires : tie.Need-counts-line-requires
+counts-line-requires c κs =
+    let s = c .before .before .before .before .before .before .before .before .before in
+    let a = s .args in
+    let r0 = room-same (table-parts (a .n) (a .on .now) (a .free .now)) (s .pre .1) in
+    room-first (countsLine (length (a .on .now)) (length (a .free .now))) (functionText (a .n) (linearSpace (a .n) (completed (a .n) (a .on .now) (a .free .now))) (restriction (a .n) (linearSpace (a .n) (completed (a .n) (a .on .now) (a .free .now))) (completed (a .n) (a .on .now) (a .free .now)))) (room-then (countsLine (length (a .on .now)) (length (a .free .now)) ++ functionText (a .n) (linearSpace (a .n) (completed (a .n) (a .on .now) (a .free .now))) (restriction (a .n) (linearSpace (a .n) (completed (a .n) (a .on .now) (a .free .now))) (completed (a .n) (a .on .now) (a .free .now)))) r0 (c .before .before .before .number-line .ensures))
+
+complete-requires : tie.Need-complete-requires
+complete-requires c κs = search needs
+
+flags-text-requires : tie.Need-flags-text-requires
+flags-text-requires c κs =
+    let s = c .before .before .before .before .before .before .before .before .before .before .before .before .before .before .before .before in
+    let a = s .args in
+    let r0 = room-same (table-parts (a .n) (a .on .now) (a .free .now)) (s .pre .1) in
+    let r1 = room-then (countsLine (length (a .on .now)) (length (a .free .now)) ++ functionText (a .n) (linearSpace (a .n) (completed (a .n) (a .on .now) (a .free .now))) (restriction (a .n) (linearSpace (a .n) (completed (a .n) (a .on .now) (a .free .now))) (completed (a .n) (a .on .now) (a .free .now)))) r0 (c .before .before .before .before .before .before .before .before .before .before .number-line .ensures) in
+    let r2 = room-then (functionText (a .n) (linearSpace (a .n) (completed (a .n) (a .on .now) (a .free .now))) (restriction (a .n) (linearSpace (a .n) (completed (a .n) (a .on .now) (a .free .now))) (completed (a .n) (a .on .now) (a .free .now)))) r1 (c .before .before .before .before .before .before .counts-line .ensures) in
+    let k = c .before .before .before .complete .ensures in
+    (completed-spans (s .pre .0) k, room-same (completed-text (s .pre .0) k) r2)
+
+same-length : tie.Need-same-length
+same-length c = search needs
+
+returns : tie.Need-returns
+returns c =
+    let s = c .before .before .before .before .before .before .before .before .before .before .before .before .before .before .before .before .before .before .before in
+    let a = s .args in
+    wrote-same (sym (table-parts (a .n) (a .on .now) (a .free .now)))
+    (wrote-both (c .before .before .before .before .before .before .before .before .before .before .before .before .before .number-line .ensures)
+    (wrote-both (c .before .before .before .before .before .before .before .before .before .counts-line .ensures) (wrote-same (sym (completed-text (s .pre .0) (c .before .before .before .before .before .before .complete .ensures))) (c .before .before .flags-text .ensures))))
+
+pub table-text-spec : {M : Type 1} → statement M
+table-text-spec =
+    tie.close
+    (tie.spec
+    slice-aggregate-number-line
+    number-line-requires
+    counts-line-requires
+    complete-requires
+    flags-text-requires
+    same-length
+    returns)

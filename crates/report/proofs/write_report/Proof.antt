@@ -1,0 +1,64 @@
+-- `report::write_report` meets its contract: the text is copied to the front of the room, if it fits. Assumes nothing.
+use mathlib.Core.Path.{_≡_, ap, _∙_}
+use Prim.Native.Nat.{ℕ, _≤_}
+use native.Mathlib.Omega.{arith}
+use borrow.Author.Needs.{needs}
+use lib.ListN.{length}
+use Rattle.text.proofs.Writing.{wrote-same}
+use Rattle.report.specs.Report.{reportText}
+use Rattle.report.proofs.Answering.{report-fresh, report-long, report-short, report-accepted, wrote-front, wrote-fits, wrote-part}
+use Rattle.report.proofs.write_report.Statement.{statement}
+use Rattle.report.proofs.write_report.Tie as tie
+
+slice-aggregate-report-text : tie.Need-slice-aggregate-report-text
+slice-aggregate-report-text c = search needs
+
+report-text-requires : tie.Need-report-text-requires
+report-text-requires c κs = report-fresh (c .before .before .before .args .bytes .now)
+
+returns : tie.Need-returns
+returns c =
+    let a = c .before .before .before .before .before .before .args in
+    report-short (a .bytes .now) (a .room .now) (omega (arith, c .before .before .report-text .ensures .place))
+
+sub-write-word : tie.Need-sub-write-word
+sub-write-word c = search needs
+
+part-write-word-start : tie.Need-part-write-word-start
+part-write-word-start c = search needs
+
+part-write-word-end : tie.Need-part-write-word-end
+part-write-word-end c =
+    let a = c .before .before .before .before .before .before .before .before .args in
+    wrote-fits (report-long (a .bytes .now)) (c .before .before .before .before .report-text .ensures)
+
+write-word-requires : tie.Need-write-word-requires
+write-word-requires c κs = search needs
+
+same-length : tie.Need-same-length
+same-length c = search needs
+
+returns-2 : tie.Need-returns-2
+returns-2 c =
+    let a = c .before .before .before .before .before .before .before .before .before .before .before .before .args in
+    let d = c .before .before .before .before .before .before .before .before .report-text in
+    let n : d .result ≡ length (reportText (a .bytes .now)) = omega (arith, d .ensures .place) in
+    let fits : length (reportText (a .bytes .now)) ≤ length (a .room .now) = omega arith in
+    let k = report-accepted (a .bytes .now) (a .room .now) fits in (
+      ap (λ (j : ℕ). record { refusal = 0; length = j }) n ∙ k .0,
+      wrote-front fits (wrote-same (wrote-part (report-long (a .bytes .now)) (d .ensures)) (c .before .before .write-word .ensures)) ∙ k .1,
+    )
+
+pub write-report-spec : {M : Type 1} → statement M
+write-report-spec =
+    tie.close
+    (tie.spec
+    slice-aggregate-report-text
+    report-text-requires
+    returns
+    sub-write-word
+    part-write-word-start
+    part-write-word-end
+    write-word-requires
+    same-length
+    returns-2)
