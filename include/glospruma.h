@@ -37,7 +37,7 @@ extern "C" {
 
 /* Bytes of room that always suffice: for the form written for a table, for any form that can be read, and for a report. For points,
  * GLOSPRUMA_MAX_POINTS always suffice. */
-#define GLOSPRUMA_WRITTEN_ROOM 1605
+#define GLOSPRUMA_WRITTEN_ROOM 1555
 #define GLOSPRUMA_FORM_ROOM 3141
 #define GLOSPRUMA_REPORT_ROOM 24576
 
