@@ -1,17 +1,23 @@
-/* The public calls of Glospruma, for C on x86-64. Build the library with `rt staticlib glospruma` and link
- * target/staticlib/libglospruma.a:
+/* The public calls of Glospruma, for C (C99 or later) and C++ on x86-64 Linux. Build the library with `rt staticlib glospruma` and link
+ * target/staticlib/libglospruma.a, which needs nothing but memcpy and memset of the C library:
  *
  *     cc -Iinclude program.c target/staticlib/libglospruma.a
  *
+ * The example program tests/c/examples.c makes every call. For Rust, the package in the folder rust has the same calls with slices.
+ *
  * Points are numbers below 2^n; x1 is the highest bit of a point, xn its lowest. A table is a rising list of on points and a rising list of
- * free points; all other points are off. A list or a room passes as a pointer and its length, counted in its own elements; the pointer may be
- * anything but NULL where the length is 0.
+ * free points; all other points are off.
  *
- * Every call may be made with any numbers and any bytes. It returns a struct whose first field is 0, or a refusal number of the list below.
- * A refused call has all other numbers 0 and every lent room as it was. An accepted call has its answer at the front of the room, and the rest
- * of the room as it was. No call keeps a pointer, and no call has a state of its own.
+ * What the caller sees to, and all that it has to see to:
  *
- * Where two lists or rooms are lent, a room may not overlap another room or list.
+ * - A list or a room passes as a pointer and its length, counted in its own elements: so many can be read there, and in a room written.
+ * - A pointer is never NULL, not even where the length is 0: any address does then. A pointer to 16-bit numbers is even.
+ * - A room overlaps no other room and no list of the same call. Lists may overlap.
+ * - Nothing else writes to a list or touches a room while the call runs. Calls in several threads are otherwise independent.
+ *
+ * Numbers and bytes may be any. A call returns a struct whose first field is 0, or a refusal number of the list below. A refused call has all
+ * other numbers 0 and every lent room as it was. An accepted call has its answer at the front of the room, and the rest of the room as it was.
+ * No call keeps a pointer, allocates, or has a state of its own. Structs have padding: compare them field by field.
  */
 #ifndef GLOSPRUMA_H
 #define GLOSPRUMA_H
@@ -23,25 +29,29 @@
 extern "C" {
 #endif
 
-/* The largest number of variables, of points of a table, and of variables of a listing. */
+/* The largest number of variables, of points of a table, and of variables of a listing; the bytes of the longest stored table. */
 #define GLOSPRUMA_MAX_VARIABLES 12
 #define GLOSPRUMA_MAX_POINTS 4096
 #define GLOSPRUMA_MAX_LISTED 6
+#define GLOSPRUMA_TABLE_LENGTH 12293
 
-/* Rooms that always suffice: for the form written for a table, and for any form that can be read. */
-#define GLOSPRUMA_WRITTEN_ROOM 1605
+/* Bytes of room that always suffice: for the form written for a table, for any form that can be read, and for a report. For points,
+ * GLOSPRUMA_MAX_POINTS always suffice. */
+#define GLOSPRUMA_WRITTEN_ROOM 1555
 #define GLOSPRUMA_FORM_ROOM 3141
+#define GLOSPRUMA_REPORT_ROOM 24576
 
 /* The length of a record of the listing: degree, least point, basis vectors rising, unused bytes 0. */
 #define GLOSPRUMA_RECORD_LENGTH 8
 
+/* Each call tests what concerns it in the order 1, 2, 3, 4, 6, 5, 9, 7, and bytes for 8 first; the first that applies is given. */
 enum glospruma_refusal {
     GLOSPRUMA_ACCEPTED = 0,
     GLOSPRUMA_VARIABLES = 1, /* n is 0 or above 12 */
     GLOSPRUMA_POINT = 2,     /* a point of either list is 2^n or more */
     GLOSPRUMA_ORDER = 3,     /* a point isn't greater than the one before it in its list */
     GLOSPRUMA_SHARED = 4,    /* a point stands in both lists */
-    GLOSPRUMA_SIZE = 5,      /* listing with n above 6, or a form whose restriction has more than 6 variables */
+    GLOSPRUMA_SIZE = 5,      /* listing with n above 6, or a form with n-k above 6: the restriction has that many variables */
     GLOSPRUMA_AFFINE = 6,    /* smallest affine space of an empty on set */
     GLOSPRUMA_ROOM = 7,      /* an answer is longer than its lent room */
     GLOSPRUMA_LAYOUT = 8,    /* bytes aren't a form, or aren't laid out as a table */

@@ -57,7 +57,7 @@ pub const MAX_LISTED: usize = 6;
 pub const TABLE_LENGTH: usize = 12_293;
 
 /// Room that always suffices for the form written for a table.
-pub const WRITTEN_ROOM: usize = 1605;
+pub const WRITTEN_ROOM: usize = 1555;
 
 /// Room that always suffices for writing a form again: bytes of the longest form.
 pub const FORM_ROOM: usize = 3141;

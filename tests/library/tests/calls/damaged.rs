@@ -17,6 +17,7 @@ use crate::stored;
 use crate::tables;
 use crate::tally::Tally;
 use crate::write_form;
+use glospruma::WRITTEN_ROOM;
 use reference::calls;
 use reference::generate::Generator;
 use reference::numbers::{FormNumbers, FormPointsNumbers, ReportNumbers, RewriteNumbers};
@@ -231,7 +232,7 @@ impl Run {
     }
 
     fn write_form(&mut self, n: usize, on: &[u16], free: &[u16]) {
-        let mut answer = vec![0; 1605];
+        let mut answer = vec![0; WRITTEN_ROOM];
         let accepted = calls::write_form(n, on, free, &mut answer);
         let short = FormNumbers {
             refusal: SHORT_ROOM,

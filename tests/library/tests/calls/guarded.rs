@@ -11,6 +11,7 @@ use crate::lists;
 use crate::pages::{Guard, Guarded};
 use crate::stored;
 use crate::tables;
+use glospruma::{REPORT_ROOM, WRITTEN_ROOM};
 use reference::generate::Generator;
 use reference::table::Table;
 use std::fmt::Debug;
@@ -57,9 +58,10 @@ fn table_calls(guard: Guard, (n, on, free): &Table) {
     let (on, free) = (Guarded::holding(guard, on), Guarded::holding(guard, free));
     let (on, free) = (on.part(), free.part());
     let mut points = [0; 4096];
-    let mut bytes = [0; 1605];
+    let mut bytes = [0; WRITTEN_ROOM];
+    let plain = on.to_vec();
     let space = library::linear_space(n, on);
-    assert_eq!(space, library::linear_space(n, &on.to_vec()));
+    assert_eq!(space, library::linear_space(n, &plain));
     let count = library::complete(n, on, free, &mut points).count;
     in_rooms(guard, count, |room| library::complete(n, on, free, room));
     let count = library::analyse(n, on, free, &mut points).count;
@@ -82,7 +84,7 @@ fn byte_calls(guard: Guard, bytes: &[u8]) {
     let lent = Guarded::holding(guard, bytes);
     let bytes = lent.part();
     let mut points = [0; 4096];
-    let mut text = vec![0; 24_576];
+    let mut text = vec![0; REPORT_ROOM];
     let count = library::form_points(bytes, &mut points).count;
     in_rooms(guard, count, |room| library::form_points(bytes, room));
     let length = library::form_rewrite(bytes, &mut text).length;
@@ -100,7 +102,7 @@ fn byte_calls(guard: Guard, bytes: &[u8]) {
 }
 
 /// Good tables of every size and kind, and faulty lists: some hundred.
-fn some_tables() -> impl Iterator<Item = Table> {
+pub fn some_tables() -> impl Iterator<Item = Table> {
     let small = tables::small_tables().step_by(97);
     let random = tables::random_tables(190).step_by(23);
     let known = tables::known_tables().step_by(17);
@@ -110,7 +112,7 @@ fn some_tables() -> impl Iterator<Item = Table> {
 }
 
 /// Stored tables and forms, whole and damaged: some hundred of each.
-fn some_bytes() -> impl Iterator<Item = Vec<u8>> {
+pub fn some_bytes() -> impl Iterator<Item = Vec<u8>> {
     let mut generator = Generator::new(192);
     let short = stored::short_tables(&mut generator).into_iter();
     let damaged = short.flat_map(|bytes| stored::every_damage(&bytes));

@@ -1,9 +1,10 @@
 //! Comparison of each call of the static library with the reference, one module
 //! to a call; `examples`, `published` and `vectors` compare with fixed answers
 //! instead. `damaged` makes all calls that read bytes on inputs damaged at random,
-//! and `guarded` makes every call beside pages that may not be touched. Follows document 01, sections "Points and spaces", "Primes", "The
-//! written form", "Refusal numbers", "The printed report" and "Table of proved
-//! examples".
+//! `guarded` makes every call beside pages that may not be touched, and `safe`
+//! makes the safe calls of the Rust package. Follows document 01, sections "Points
+//! and spaces", "Primes", "The written form", "Refusal numbers", "The printed
+//! report" and "Table of proved examples".
 //!
 //! A further call takes a module here with its own `compare` and the inputs of
 //! `tables`, `lists`, `stored` and `forms`; its declaration stands in the package
@@ -32,4 +33,5 @@ mod damaged;
 mod examples;
 mod guarded;
 mod published;
+mod safe;
 mod vectors;

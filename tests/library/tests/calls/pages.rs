@@ -6,7 +6,7 @@
 use crate::lent::Entry;
 use reference::generate::Generator;
 use std::ffi::{c_int, c_void};
-use std::mem::size_of;
+use std::mem::size_of_val;
 use std::ptr::null_mut;
 use std::slice;
 
@@ -48,7 +48,7 @@ pub struct Guarded<T> {
 impl<T: Entry> Guarded<T> {
     /// Memory that holds the given entries and may be written.
     pub fn room_with(guard: Guard, entries: &[T]) -> Guarded<T> {
-        let bytes = size_of::<T>() * entries.len();
+        let bytes = size_of_val(entries);
         let inner = bytes.next_multiple_of(PAGE).max(PAGE);
         let mapped = inner + 2 * PAGE;
         // SAFETY: a new mapping that nothing else uses; all places are inside it.

@@ -1,0 +1,500 @@
+/* Document 01's examples P1 to P9 through include/glospruma.h, refusals of every number with lent memory compared, and the layout of the
+ * answers. Prints how many cases passed, `N passed, 0 failed`, or what differs, and then exits with 1. To build and run it, in the folder of the
+ * repository:
+ *
+ *     cc -std=c99 -Wall -Wextra -Werror -pedantic -Iinclude tests/c/examples.c target/staticlib/libglospruma.a -o examples && ./examples
+ *
+ * Every list and room is an allocation of its own and of its exact length, so that a tool that watches memory sees each access beyond it.
+ */
+#include "glospruma.h"
+
+#include <stdio.h>
+#include <stdlib.h>
+#include <string.h>
+
+/* What lent rooms hold before a call. */
+#define PAINT 0xA5
+
+#define LENGTH(array) (sizeof(array) / sizeof((array)[0]))
+
+/* Whether every check of the case that runs has held so far. */
+static int all_hold;
+
+static void check(int holds, const char *text, int line) {
+    if (!holds) {
+        all_hold = 0;
+        printf("line %d: this doesn't hold: %s\n", line, text);
+    }
+}
+
+#define CHECK(condition) check((condition), #condition, __LINE__)
+
+/* An allocation that ends the program if there is no memory; never NULL, also for length 0. */
+static void *allocated(size_t bytes) {
+    void *memory = malloc(bytes > 0 ? bytes : 1);
+    if (memory == NULL) {
+        puts("no memory");
+        exit(1);
+    }
+    return memory;
+}
+
+/* A list of points, or a room for points with paint in it. */
+typedef struct {
+    uint16_t *points;
+    size_t length;
+} points;
+
+/* Bytes, or a room for bytes with paint in it. */
+typedef struct {
+    uint8_t *bytes;
+    size_t length;
+} bytes;
+
+static points point_list(const uint16_t *given, size_t length) {
+    points list = {allocated(length * sizeof(uint16_t)), length};
+    if (length > 0) {
+        memcpy(list.points, given, length * sizeof(uint16_t));
+    }
+    return list;
+}
+
+static points point_room(size_t length) {
+    points room = {allocated(length * sizeof(uint16_t)), length};
+    memset(room.points, PAINT, length * sizeof(uint16_t));
+    return room;
+}
+
+static bytes byte_list(const uint8_t *given, size_t length) {
+    bytes list = {allocated(length), length};
+    if (length > 0) {
+        memcpy(list.bytes, given, length);
+    }
+    return list;
+}
+
+static bytes byte_room(size_t length) {
+    bytes room = {allocated(length), length};
+    memset(room.bytes, PAINT, length);
+    return room;
+}
+
+/* Whether the expected bytes stand at the front of a room of so many bytes, and paint after them. */
+static int front_is(const void *room, size_t length, const void *expected, size_t expected_length) {
+    const uint8_t *start = room;
+    size_t place;
+    if (expected_length > length || (expected_length > 0 && memcmp(start, expected, expected_length) != 0)) {
+        return 0;
+    }
+    for (place = expected_length; place < length; place++) {
+        if (start[place] != PAINT) {
+            return 0;
+        }
+    }
+    return 1;
+}
+
+/* Whether a room has these points at its front and is as lent after them; frees it. */
+static int points_are(points room, const uint16_t *expected, size_t count) {
+    int same = front_is(room.points, room.length * sizeof(uint16_t), expected, count * sizeof(uint16_t));
+    free(room.points);
+    return same;
+}
+
+/* Whether a room has these bytes at its front and is as lent after them; frees it. */
+static int bytes_are(bytes room, const uint8_t *expected, size_t count) {
+    int same = front_is(room.bytes, room.length, expected, count);
+    free(room.bytes);
+    return same;
+}
+
+static int points_as_lent(points room) { return points_are(room, NULL, 0); }
+static int bytes_as_lent(bytes room) { return bytes_are(room, NULL, 0); }
+
+/* Whether a short list has these numbers and 0 after them. */
+static int values_are(const uint16_t *values, size_t length, const uint16_t *expected, size_t count) {
+    size_t place;
+    int same = length == count;
+    for (place = 0; place < GLOSPRUMA_MAX_VARIABLES; place++) {
+        same = same && values[place] == (place < count ? expected[place] : 0);
+    }
+    return same;
+}
+
+static int basis_is(const glospruma_basis *basis, const uint16_t *expected, size_t count) {
+    return values_are(basis->vectors, basis->len, expected, count);
+}
+
+static int list_is(const glospruma_short_list *list, const uint16_t *expected, size_t count) {
+    return values_are(list->values, list->len, expected, count);
+}
+
+/* The form written for a table of on points has these bytes; read, it has these points, and written again, these bytes. */
+static void check_form(size_t n, const uint16_t *on_points, size_t on_count, const uint8_t *form, size_t form_length, size_t products) {
+    points on = point_list(on_points, on_count), none = point_list(NULL, 0), room = point_room(on_count + 1);
+    bytes written = byte_room(form_length), again = byte_room(form_length + 3), short_room = byte_room(form_length - 1);
+    bytes source = byte_list(form, form_length);
+    glospruma_form_written wrote = glospruma_write_form(n, on.points, on.length, none.points, none.length, written.bytes, written.length);
+    glospruma_form_written refused =
+        glospruma_write_form(n, on.points, on.length, none.points, none.length, short_room.bytes, short_room.length);
+    glospruma_points_read read = glospruma_form_points(source.bytes, source.length, room.points, room.length);
+    glospruma_form_rewritten rewrote = glospruma_form_rewrite(source.bytes, source.length, again.bytes, again.length);
+    CHECK(wrote.refusal == GLOSPRUMA_ACCEPTED && wrote.length == form_length && wrote.products == products);
+    CHECK(bytes_are(written, form, form_length));
+    CHECK(refused.refusal == GLOSPRUMA_ROOM && refused.length == 0 && refused.products == 0);
+    CHECK(bytes_as_lent(short_room));
+    CHECK(read.refusal == GLOSPRUMA_ACCEPTED && read.variables == n && read.count == on_count);
+    CHECK(points_are(room, on_points, on_count));
+    CHECK(rewrote.refusal == GLOSPRUMA_ACCEPTED && rewrote.length == form_length);
+    CHECK(bytes_are(again, form, form_length));
+    free(on.points);
+    free(none.points);
+    free(source.bytes);
+}
+
+/* What the analysis of a table of on points gives. */
+typedef struct {
+    size_t degree;
+    const uint16_t *basis, *canonical, *equations, *restriction;
+    size_t basis_length, canonical_length, equations_length, restriction_length;
+} analysed;
+
+static void check_analysis(size_t n, const uint16_t *on_points, size_t on_count, analysed expected) {
+    points on = point_list(on_points, on_count), none = point_list(NULL, 0), room = point_room(expected.restriction_length + 1);
+    glospruma_space space = glospruma_linear_space(n, on.points, on.length);
+    glospruma_analysis found = glospruma_analyse(n, on.points, on.length, none.points, none.length, room.points, room.length);
+    CHECK(space.refusal == GLOSPRUMA_ACCEPTED && space.degree == expected.degree);
+    CHECK(basis_is(&space.basis, expected.basis, expected.basis_length));
+    CHECK(found.refusal == GLOSPRUMA_ACCEPTED && found.degree == expected.degree && found.count == expected.restriction_length);
+    CHECK(basis_is(&found.basis, expected.basis, expected.basis_length));
+    CHECK(list_is(&found.canonical, expected.canonical, expected.canonical_length));
+    CHECK(list_is(&found.equations, expected.equations, expected.equations_length));
+    CHECK(points_are(room, expected.restriction, expected.restriction_length));
+    free(on.points);
+    free(none.points);
+}
+
+static void p1(void) {
+    static const uint16_t one[] = {1};
+    static const uint8_t form[] = {0x4E, 1, 0x45, 0, 0};
+    analysed expected = {1, one, one, NULL, NULL, 1, 1, 0, 0};
+    check_analysis(1, NULL, 0, expected);
+    check_form(1, NULL, 0, form, LENGTH(form), 0);
+}
+
+static void p2(void) {
+    static const uint16_t one[] = {1}, zero[] = {0};
+    static const uint8_t form[] = {0x4E, 1, 0x50, 0x58, 0, 1, 0, 0x45, 1, 0};
+    analysed expected = {0, NULL, NULL, one, zero, 0, 0, 1, 1};
+    check_analysis(1, zero, 1, expected);
+    check_form(1, zero, 1, form, LENGTH(form), 1);
+}
+
+static void p3(void) {
+    static const uint16_t both[] = {0, 1}, one[] = {1}, zero[] = {0};
+    static const uint8_t form[] = {0x4E, 1, 0x50, 0x45, 1, 0};
+    analysed expected = {1, one, one, NULL, zero, 1, 1, 0, 1};
+    check_analysis(1, both, 2, expected);
+    check_form(1, both, 2, form, LENGTH(form), 1);
+}
+
+static void p4(void) {
+    static const uint16_t on[] = {1, 2, 4, 7}, basis[] = {3, 5}, canonical[] = {1, 2}, equations[] = {7}, restriction[] = {1};
+    static const uint8_t form[] = {0x4E, 3, 0x50, 0x58, 1, 7, 0, 0x45, 1, 0};
+    analysed expected = {2, basis, canonical, equations, restriction, 2, 2, 1, 1};
+    check_analysis(3, on, LENGTH(on), expected);
+    check_form(3, on, LENGTH(on), form, LENGTH(form), 1);
+}
+
+static const uint16_t p5_on[] = {4, 5, 6, 7, 9, 10, 12, 13, 14, 15};
+
+static const uint8_t p5_form[] = {0x4E, 0x04, 0x50, 0x58, 0x01, 0x04, 0x00, 0x50, 0x58, 0x01,
+                                  0x0C, 0x00, 0x58, 0x00, 0x0B, 0x00, 0x45, 0x02, 0x00};
+
+/* The report that document 01 prints whole. */
+static const char p5_report[] = "variables 4\n"
+                                "on 10 free 0\n"
+                                "degree 1\n"
+                                "canonical 3\n"
+                                "y1 = x1\n"
+                                "y2 = x2\n"
+                                "y3 = x3 + x4\n"
+                                "restriction 2 3 5 6 7\n"
+                                "product x2=1\n"
+                                "product x1+x2=1 x1+x3+x4=0\n";
+
+/* The stored table of P5. */
+static bytes p5_stored(void) {
+    bytes stored = byte_room(2 + 3 * LENGTH(p5_on) + 3);
+    size_t record;
+    stored.bytes[0] = 0x4E;
+    stored.bytes[1] = 4;
+    for (record = 0; record < LENGTH(p5_on); record++) {
+        stored.bytes[2 + 3 * record] = 0x4F;
+        stored.bytes[3 + 3 * record] = (uint8_t)p5_on[record];
+        stored.bytes[4 + 3 * record] = 0;
+    }
+    stored.bytes[2 + 3 * record] = 0x45;
+    stored.bytes[3 + 3 * record] = (uint8_t)record;
+    stored.bytes[4 + 3 * record] = 0;
+    return stored;
+}
+
+static void p5(void) {
+    static const uint16_t basis[] = {3}, canonical[] = {3}, equations[] = {8, 4, 3}, restriction[] = {2, 3, 5, 6, 7};
+    analysed expected = {1, basis, canonical, equations, restriction, 1, 1, 3, 5};
+    check_analysis(4, p5_on, LENGTH(p5_on), expected);
+    check_form(4, p5_on, LENGTH(p5_on), p5_form, LENGTH(p5_form), 2);
+}
+
+static void p5_read_and_reported(void) {
+    bytes stored = p5_stored(), text = byte_room(sizeof p5_report + 4), short_text = byte_room(sizeof p5_report - 2);
+    points on = point_room(LENGTH(p5_on)), none = point_room(0);
+    glospruma_table_read read = glospruma_read_table(stored.bytes, stored.length, on.points, on.length, none.points, none.length);
+    glospruma_report_written report = glospruma_report(stored.bytes, stored.length, text.bytes, text.length);
+    glospruma_report_written refused = glospruma_report(stored.bytes, stored.length, short_text.bytes, short_text.length);
+    CHECK(read.refusal == GLOSPRUMA_ACCEPTED && read.variables == 4 && read.on_count == LENGTH(p5_on) && read.free_count == 0);
+    CHECK(points_are(on, p5_on, LENGTH(p5_on)));
+    CHECK(report.refusal == GLOSPRUMA_ACCEPTED && report.length == sizeof p5_report - 1);
+    CHECK(bytes_are(text, (const uint8_t *)p5_report, sizeof p5_report - 1));
+    CHECK(refused.refusal == GLOSPRUMA_ROOM && refused.length == 0);
+    CHECK(bytes_as_lent(short_text));
+    free(stored.bytes);
+    free(none.points);
+}
+
+static void p6(void) {
+    static const uint16_t on_points[] = {2, 3, 5, 6, 7};
+    static const uint8_t records[] = {2, 2, 1, 4, 0, 0, 0, 0, 1, 2, 7, 0, 0, 0, 0, 0, 1, 3, 6, 0,
+                                      0, 0, 0, 0, 1, 5, 2, 0, 0, 0, 0, 0, 1, 5, 3, 0, 0, 0, 0, 0};
+    points on = point_list(on_points, LENGTH(on_points)), none = point_list(NULL, 0);
+    bytes room = byte_room(sizeof records + 7), joined = byte_room(sizeof records);
+    glospruma_listed listed =
+        glospruma_list_primes(3, on.points, on.length, none.points, none.length, 0, UINT64_MAX, room.bytes, room.length);
+    size_t length = 0;
+    uint64_t place = 0;
+    CHECK(listed.refusal == GLOSPRUMA_ACCEPTED && listed.next == 51 && listed.passed == 51 && listed.records == 5);
+    CHECK(bytes_are(room, records, sizeof records));
+    /* The same in pieces: room for one record, and an allowance of seven candidates. */
+    while (place < 51 && length < sizeof records) {
+        bytes piece = byte_room(GLOSPRUMA_RECORD_LENGTH);
+        listed = glospruma_list_primes(3, on.points, on.length, none.points, none.length, place, 7, piece.bytes, piece.length);
+        CHECK(listed.refusal == GLOSPRUMA_ACCEPTED && listed.next - place == listed.passed && listed.passed <= 7 && listed.records <= 1);
+        memcpy(joined.bytes + length, piece.bytes, listed.records * GLOSPRUMA_RECORD_LENGTH);
+        length += listed.records * GLOSPRUMA_RECORD_LENGTH;
+        place = listed.next;
+        free(piece.bytes);
+    }
+    CHECK(bytes_are(joined, records, sizeof records));
+    free(on.points);
+    free(none.points);
+}
+
+static void p7(void) {
+    static const uint16_t on_points[] = {2, 4, 6, 11, 13}, basis[] = {2, 4, 9}, projection[] = {1, 2, 3, 5, 6};
+    points on = point_list(on_points, LENGTH(on_points)), room = point_room(LENGTH(projection)), short_room = point_room(4);
+    glospruma_affine_space found = glospruma_affine(4, on.points, on.length, room.points, room.length);
+    glospruma_affine_space refused = glospruma_affine(4, on.points, on.length, short_room.points, short_room.length);
+    CHECK(found.refusal == GLOSPRUMA_ACCEPTED && found.least == 0 && found.dimension == 3 && found.count == LENGTH(projection));
+    CHECK(basis_is(&found.basis, basis, LENGTH(basis)));
+    CHECK(points_are(room, projection, LENGTH(projection)));
+    CHECK(refused.refusal == GLOSPRUMA_ROOM && refused.dimension == 0 && refused.count == 0 && basis_is(&refused.basis, NULL, 0));
+    CHECK(points_as_lent(short_room));
+    free(on.points);
+}
+
+static void p8(void) {
+    static const uint16_t on_points[] = {0}, free_points[] = {1, 2};
+    points on = point_list(on_points, 1), others = point_list(free_points, 2), room = point_room(3);
+    glospruma_completion found = glospruma_complete(2, on.points, on.length, others.points, others.length, room.points, room.length);
+    CHECK(found.refusal == GLOSPRUMA_ACCEPTED && found.count == 1 && found.degree == 0 && found.low == 0 && found.high == 0);
+    CHECK(points_are(room, on_points, 1));
+    free(on.points);
+    free(others.points);
+}
+
+static void p9(void) {
+    static const uint16_t free_points[] = {0};
+    points on = point_list(NULL, 0), others = point_list(free_points, 1);
+    bytes room = byte_room(16);
+    glospruma_listed whole = glospruma_list_primes(2, on.points, 0, others.points, 1, 0, UINT64_MAX, room.bytes, room.length);
+    glospruma_listed end = glospruma_list_primes(2, on.points, 0, others.points, 1, 11, UINT64_MAX, room.bytes, room.length);
+    glospruma_listed beyond = glospruma_list_primes(2, on.points, 0, others.points, 1, 12, 0, room.bytes, room.length);
+    glospruma_listed nothing = glospruma_list_primes(2, on.points, 0, others.points, 1, 4, 0, room.bytes, room.length);
+    CHECK(whole.refusal == GLOSPRUMA_ACCEPTED && whole.next == 11 && whole.passed == 11 && whole.records == 0);
+    CHECK(end.refusal == GLOSPRUMA_ACCEPTED && end.next == 11 && end.passed == 0 && end.records == 0);
+    CHECK(beyond.refusal == GLOSPRUMA_PLACE && beyond.next == 0 && beyond.passed == 0 && beyond.records == 0);
+    CHECK(nothing.refusal == GLOSPRUMA_ACCEPTED && nothing.next == 4 && nothing.passed == 0 && nothing.records == 0);
+    CHECK(bytes_as_lent(room));
+    free(on.points);
+    free(others.points);
+}
+
+/* A table that every call which takes it refuses with one number. */
+typedef struct {
+    size_t n;
+    const uint16_t *on, *others;
+    size_t on_length, others_length;
+    uint8_t refusal;
+} faulty;
+
+static void check_refused_table(faulty table) {
+    points on = point_list(table.on, table.on_length), others = point_list(table.others, table.others_length);
+    points room = point_room(8);
+    bytes byte_rest = byte_room(40);
+    glospruma_completion completion =
+        glospruma_complete(table.n, on.points, on.length, others.points, others.length, room.points, room.length);
+    glospruma_analysis analysis =
+        glospruma_analyse(table.n, on.points, on.length, others.points, others.length, room.points, room.length);
+    glospruma_listed listed =
+        glospruma_list_primes(table.n, on.points, on.length, others.points, others.length, 0, 9, byte_rest.bytes, byte_rest.length);
+    glospruma_form_written form =
+        glospruma_write_form(table.n, on.points, on.length, others.points, others.length, byte_rest.bytes, byte_rest.length);
+    CHECK(completion.refusal == table.refusal && completion.count == 0 && completion.degree == 0);
+    CHECK(completion.low == 0 && completion.high == 0);
+    CHECK(analysis.refusal == table.refusal && analysis.degree == 0 && analysis.count == 0);
+    CHECK(basis_is(&analysis.basis, NULL, 0) && list_is(&analysis.canonical, NULL, 0) && list_is(&analysis.equations, NULL, 0));
+    CHECK(listed.refusal == table.refusal && listed.next == 0 && listed.passed == 0 && listed.records == 0);
+    CHECK(form.refusal == table.refusal && form.length == 0 && form.products == 0);
+    CHECK(points_as_lent(room));
+    CHECK(bytes_as_lent(byte_rest));
+    CHECK(memcmp(on.points, table.on, on.length * sizeof(uint16_t)) == 0);
+    free(on.points);
+    free(others.points);
+}
+
+static void refused_tables(void) {
+    static const uint16_t one[] = {1}, twice[] = {1, 1}, falling[] = {2, 1}, large[] = {4096}, two[] = {1, 2};
+    static const faulty tables[] = {
+        {0, one, one, 1, 1, GLOSPRUMA_VARIABLES},
+        {13, twice, one, 2, 1, GLOSPRUMA_VARIABLES},
+        {SIZE_MAX, one, one, 1, 1, GLOSPRUMA_VARIABLES},
+        {12, large, one, 1, 1, GLOSPRUMA_POINT},
+        {12, twice, large, 2, 1, GLOSPRUMA_POINT},
+        {3, twice, one, 2, 1, GLOSPRUMA_ORDER},
+        {3, one, falling, 1, 2, GLOSPRUMA_ORDER},
+        {3, two, one, 2, 1, GLOSPRUMA_SHARED},
+    };
+    size_t place;
+    for (place = 0; place < LENGTH(tables); place++) {
+        check_refused_table(tables[place]);
+    }
+}
+
+static void refused_sizes(void) {
+    static const uint16_t one[] = {1};
+    points on = point_list(one, 1), room = point_room(2);
+    bytes bytes_lent = byte_room(40);
+    glospruma_listed listed = glospruma_list_primes(7, on.points, 1, on.points, 0, 0, 1, bytes_lent.bytes, bytes_lent.length);
+    glospruma_form_written form = glospruma_write_form(7, on.points, 1, on.points, 0, bytes_lent.bytes, bytes_lent.length);
+    glospruma_affine_space empty = glospruma_affine(4, on.points, 0, room.points, room.length);
+    glospruma_space space = glospruma_linear_space(0, on.points, 1);
+    CHECK(listed.refusal == GLOSPRUMA_SIZE && listed.next == 0 && listed.passed == 0 && listed.records == 0);
+    CHECK(form.refusal == GLOSPRUMA_SIZE && form.length == 0 && form.products == 0);
+    CHECK(empty.refusal == GLOSPRUMA_AFFINE && empty.least == 0 && empty.dimension == 0 && empty.count == 0);
+    CHECK(space.refusal == GLOSPRUMA_VARIABLES && space.degree == 0 && basis_is(&space.basis, NULL, 0));
+    CHECK(points_as_lent(room));
+    CHECK(bytes_as_lent(bytes_lent));
+    free(on.points);
+}
+
+/* Every cut of P5's form and of its stored table is refused, and so is a short room for either. */
+static void refused_bytes(void) {
+    bytes stored = p5_stored();
+    size_t length;
+    for (length = 0; length < LENGTH(p5_form); length++) {
+        bytes cut = byte_list(p5_form, length), room = byte_room(30);
+        points point_rest = point_room(16);
+        glospruma_points_read read = glospruma_form_points(cut.bytes, cut.length, point_rest.points, point_rest.length);
+        glospruma_form_rewritten rewrote = glospruma_form_rewrite(cut.bytes, cut.length, room.bytes, room.length);
+        CHECK(read.refusal == GLOSPRUMA_LAYOUT && read.variables == 0 && read.count == 0);
+        CHECK(rewrote.refusal == GLOSPRUMA_LAYOUT && rewrote.length == 0);
+        CHECK(points_as_lent(point_rest));
+        CHECK(bytes_as_lent(room));
+        free(cut.bytes);
+    }
+    for (length = 0; length < stored.length; length++) {
+        bytes cut = byte_list(stored.bytes, length), text = byte_room(10);
+        points on = point_room(10), others = point_room(10);
+        glospruma_table_read read = glospruma_read_table(cut.bytes, cut.length, on.points, on.length, others.points, others.length);
+        glospruma_report_written report = glospruma_report(cut.bytes, cut.length, text.bytes, text.length);
+        CHECK(read.refusal == GLOSPRUMA_LAYOUT && read.variables == 0 && read.on_count == 0 && read.free_count == 0);
+        CHECK(points_as_lent(on));
+        CHECK(points_as_lent(others));
+        CHECK(report.refusal == GLOSPRUMA_ACCEPTED && report.length == 10);
+        CHECK(bytes_are(text, (const uint8_t *)"refused 8\n", 10));
+        free(cut.bytes);
+    }
+    free(stored.bytes);
+}
+
+static void short_rooms(void) {
+    static const uint8_t table[] = {0x4E, 2, 0x4F, 0, 0, 0x44, 1, 0, 0x44, 2, 0, 0x45, 3, 0};
+    size_t length;
+    for (length = 0; length < LENGTH(p5_on); length++) {
+        points room = point_room(length);
+        glospruma_points_read read = glospruma_form_points(p5_form, sizeof p5_form, room.points, room.length);
+        CHECK(read.refusal == GLOSPRUMA_ROOM && read.variables == 0 && read.count == 0);
+        CHECK(points_as_lent(room));
+    }
+    for (length = 0; length < 4; length++) {
+        points on = point_room(length % 2), others = point_room(length / 2);
+        glospruma_table_read read = glospruma_read_table(table, sizeof table, on.points, on.length, others.points, others.length);
+        CHECK(read.refusal == GLOSPRUMA_ROOM && read.variables == 0 && read.on_count == 0 && read.free_count == 0);
+        CHECK(points_as_lent(on));
+        CHECK(points_as_lent(others));
+    }
+}
+
+/* The sizes that the Rust package's tests ask of its structs too. */
+static void layout(void) {
+    CHECK(sizeof(glospruma_short_list) == 32 && sizeof(glospruma_basis) == 32);
+    CHECK(sizeof(glospruma_table_read) == 32 && offsetof(glospruma_table_read, variables) == 8);
+    CHECK(sizeof(glospruma_space) == 48 && offsetof(glospruma_space, basis) == 16);
+    CHECK(sizeof(glospruma_completion) == 40);
+    CHECK(sizeof(glospruma_analysis) == 120 && offsetof(glospruma_analysis, count) == 112);
+    CHECK(sizeof(glospruma_affine_space) == 56 && offsetof(glospruma_affine_space, least) == 2);
+    CHECK(sizeof(glospruma_listed) == 32);
+    CHECK(sizeof(glospruma_form_written) == 24);
+    CHECK(sizeof(glospruma_points_read) == 24);
+    CHECK(sizeof(glospruma_form_rewritten) == 16);
+    CHECK(sizeof(glospruma_report_written) == 16);
+}
+
+typedef struct {
+    const char *name;
+    void (*run)(void);
+} named_case;
+
+int main(void) {
+    static const named_case cases[] = {
+        {"P1", p1},
+        {"P2", p2},
+        {"P3", p3},
+        {"P4", p4},
+        {"P5", p5},
+        {"P5, read and reported", p5_read_and_reported},
+        {"P6", p6},
+        {"P7", p7},
+        {"P8", p8},
+        {"P9", p9},
+        {"refused tables", refused_tables},
+        {"refused sizes", refused_sizes},
+        {"refused bytes", refused_bytes},
+        {"short rooms", short_rooms},
+        {"layout", layout},
+    };
+    size_t place, failed = 0;
+    for (place = 0; place < LENGTH(cases); place++) {
+        all_hold = 1;
+        cases[place].run();
+        if (!all_hold) {
+            failed++;
+            printf("failed: %s\n", cases[place].name);
+        }
+    }
+    if (failed == 0) {
+        printf("%lu passed, 0 failed\n", (unsigned long)LENGTH(cases));
+    }
+    return failed > 0;
+}

@@ -1,0 +1,200 @@
+//! The safe calls of the Rust package compared with its raw ones, which the other
+//! tests compare with the reference: an answer has the same numbers and the front
+//! of the room, and a refusal its number. Follows document 01, section "Refusal
+//! numbers".
+
+use crate::guarded::{some_bytes, some_tables};
+use glospruma::{Refusal, RECORD_LENGTH};
+use library::{Affine, Analysis, Completion, FormPoints, FormRewrite, FormWritten};
+use library::{LinearSpace, Listed, Report, TableRead};
+use reference::table::Table;
+use std::fmt::Debug;
+
+/// Lengths of rooms for points, and for bytes, long enough or not.
+const ROOMS: [usize; 4] = [0, 5, 60, 30_000];
+
+/// Compares the numbers of a raw call with those of a safe one: either those made
+/// from its answer, or those of its refusal.
+fn compare<A, N: PartialEq + Debug>(
+    raw: N,
+    safe: Result<A, Refusal>,
+    accepted: impl FnOnce(A) -> N,
+    refused: impl FnOnce(u8) -> N,
+) {
+    match safe {
+        Ok(answer) => assert_eq!(accepted(answer), raw),
+        Err(refusal) => assert_eq!(refused(refusal.into()), raw),
+    }
+}
+
+/// Numbers of a refused call: all others are 0.
+macro_rules! refused {
+    ($numbers:ident) => {
+        |refusal| $numbers {
+            refusal,
+            ..Default::default()
+        }
+    };
+}
+
+fn spaces((n, on, free): &Table, length: usize) {
+    let (mut room, mut other) = (vec![7; length], vec![7; length]);
+    let raw = library::linear_space(*n, on);
+    let linear = |found: glospruma::LinearSpace| LinearSpace {
+        refusal: 0,
+        degree: found.degree,
+        basis: found.basis,
+    };
+    let safe = glospruma::linear_space(*n, on);
+    compare(raw, safe, linear, refused!(LinearSpace));
+    let raw = library::complete(*n, on, free, &mut room);
+    let completed = |found: glospruma::Completion| {
+        assert_eq!(found.points, &room[..raw.count]);
+        Completion {
+            refusal: 0,
+            count: found.points.len(),
+            degree: found.degree,
+            low: found.low,
+            high: found.high,
+        }
+    };
+    let safe = glospruma::complete(*n, on, free, &mut other);
+    compare(raw, safe, completed, refused!(Completion));
+    let raw = library::analyse(*n, on, free, &mut room);
+    let analysed = |found: glospruma::Analysis| {
+        assert_eq!(found.restriction, &room[..raw.count]);
+        Analysis {
+            refusal: 0,
+            degree: found.degree,
+            basis: found.basis,
+            canonical: found.canonical,
+            equations: found.equations,
+            count: found.restriction.len(),
+        }
+    };
+    let safe = glospruma::analyse(*n, on, free, &mut other);
+    compare(raw, safe, analysed, refused!(Analysis));
+    let raw = library::affine(*n, on, &mut room);
+    let smallest = |found: glospruma::AffineSpace| {
+        assert_eq!(found.projection, &room[..raw.count]);
+        Affine {
+            refusal: 0,
+            least: found.least,
+            dimension: found.dimension,
+            basis: found.basis,
+            count: found.projection.len(),
+        }
+    };
+    let safe = glospruma::affine(*n, on, &mut other);
+    compare(raw, safe, smallest, refused!(Affine));
+    assert_eq!(room, other);
+}
+
+fn primes_and_form((n, on, free): &Table, length: usize) {
+    let (mut room, mut other) = (vec![7; length], vec![7; length]);
+    for (place, allowance) in [(0, u64::MAX), (3, 40), (60, 1)] {
+        let raw = library::list_primes(*n, on, free, place, allowance, &mut room);
+        let listed = |found: glospruma::Listing| {
+            assert_eq!(found.records, &room[..RECORD_LENGTH * raw.records]);
+            for prime in found.primes() {
+                assert_eq!(prime.basis.len(), usize::from(prime.degree));
+            }
+            Listed {
+                refusal: 0,
+                next: found.next,
+                passed: found.passed,
+                records: found.primes().count(),
+            }
+        };
+        let safe = glospruma::list_primes(*n, on, free, place, allowance, &mut other);
+        compare(raw, safe, listed, refused!(Listed));
+    }
+    let raw = library::write_form(*n, on, free, &mut room);
+    let written = |found: glospruma::WrittenForm| {
+        assert_eq!(found.bytes, &room[..raw.length]);
+        FormWritten {
+            refusal: 0,
+            length: found.bytes.len(),
+            products: found.products,
+        }
+    };
+    let safe = glospruma::write_form(*n, on, free, &mut other);
+    compare(raw, safe, written, refused!(FormWritten));
+    assert_eq!(room, other);
+}
+
+fn stored_table(bytes: &[u8], length: usize) {
+    let (mut on, mut free) = (vec![7; length], vec![7; length]);
+    let (mut other_on, mut other_free) = (on.clone(), free.clone());
+    let raw = library::read_table(bytes, &mut on, &mut free);
+    let read = |found: glospruma::Table| {
+        assert_eq!(found.on, &on[..raw.on_count]);
+        assert_eq!(found.free, &free[..raw.free_count]);
+        TableRead {
+            refusal: 0,
+            variables: found.variables,
+            on_count: found.on.len(),
+            free_count: found.free.len(),
+        }
+    };
+    let safe = glospruma::read_table(bytes, &mut other_on, &mut other_free);
+    compare(raw, safe, read, refused!(TableRead));
+    assert_eq!((on, free), (other_on, other_free));
+}
+
+fn form_and_report(bytes: &[u8], length: usize) {
+    let (mut points, mut other_points) = (vec![7; length], vec![7; length]);
+    let raw = library::form_points(bytes, &mut points);
+    let read = |found: glospruma::FormPoints| {
+        assert_eq!(found.points, &points[..raw.count]);
+        FormPoints {
+            refusal: 0,
+            variables: found.variables,
+            count: found.points.len(),
+        }
+    };
+    let safe = glospruma::form_points(bytes, &mut other_points);
+    compare(raw, safe, read, refused!(FormPoints));
+    let (mut room, mut other) = (vec![7; length], vec![7; length]);
+    let raw = library::form_rewrite(bytes, &mut room);
+    let rewritten = |found: glospruma::RewrittenForm| {
+        assert_eq!(found.bytes, &room[..raw.length]);
+        FormRewrite {
+            refusal: 0,
+            length: found.bytes.len(),
+        }
+    };
+    let safe = glospruma::form_rewrite(bytes, &mut other);
+    compare(raw, safe, rewritten, refused!(FormRewrite));
+    let raw = library::report(bytes, &mut room);
+    let reported = |found: glospruma::Report| {
+        assert_eq!(found.text.as_bytes(), &room[..raw.length]);
+        Report {
+            refusal: 0,
+            length: found.text.len(),
+        }
+    };
+    let safe = glospruma::report(bytes, &mut other);
+    compare(raw, safe, reported, refused!(Report));
+    assert_eq!((points, room), (other_points, other));
+}
+
+#[test]
+fn tables() {
+    for table in some_tables() {
+        for length in ROOMS {
+            spaces(&table, length);
+            primes_and_form(&table, length);
+        }
+    }
+}
+
+#[test]
+fn bytes() {
+    for bytes in some_bytes() {
+        for length in ROOMS {
+            stored_table(&bytes, length);
+            form_and_report(&bytes, length);
+        }
+    }
+}
