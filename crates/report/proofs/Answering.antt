@@ -1,7 +1,7 @@
 -- What the call that gives the report needs: reading with rooms for every point refuses just what the stored table refuses, a text at the front of
 -- lent bytes, and the answer and the room by the one decision.
 use mathlib.Core.Path.{_≡_, refl, sym, ap, _∙_}
-use mathlib.Core.Bool.{Bool, true, false, cond, _||_}
+use mathlib.Core.Bool.{Bool, true, false, cond}
 use mathlib.Core.Logic.{_≢_}
 use mathlib.Core.List.{List, [], _∷_, _++_}
 use Prim.Native.Nat.{ℕ, _+_, _-_, _^_, _≤_, _<_}
@@ -10,7 +10,7 @@ use native.Mathlib.Omega.{arith}
 use lib.Dec.{ltb}
 use lib.Pow.{pow-mono}
 use lib.ListN.{length, take, drop}
-use lib.Seq.{sets, sets-eq, take-at}
+use lib.Seq.{sets-eq, take-at}
 use borrow.Author.Tests.{le-ltb}
 use Rattle.gf2.proofs.Finite.{rising-length}
 use Rattle.table.specs.Refusal.{Test, firstFault, roomFault}
@@ -22,7 +22,7 @@ use Rattle.table.proofs.Decide.{decide-accepted, decide-refused, call-short, ca
 use Rattle.stored.specs.declared.TableRead.{TableRead}
 use Rattle.stored.specs.Marks.{storedVariables, storedOn, storedFree}
 use Rattle.stored.specs.Stored.{storedTests, storedFault}
-use Rattle.stored.specs.Reading.{readFault, refusedRead, acceptedRead, readAnswer, onAfter, freeAfter}
+use Rattle.stored.specs.Reading.{readFault, acceptedRead, readAnswer, onAfter, freeAfter}
 use Rattle.stored.proofs.Accepting.{stored-accepted}
 use Rattle.stored.proofs.Rooms.{stored-first, then-room, refused-read, accepted-read, accepted-on, accepted-free}
 use Rattle.text.specs.Writing.{HasRoom, Wrote}

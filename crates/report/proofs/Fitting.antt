@@ -1,21 +1,19 @@
 -- Every report fits into `textRoom` bytes: with n - k above 6 there are at most 4,096 points of at most 5 bytes each and no product line, otherwise
 -- at most 64 points and at most 62 products of at most 6 factors of at most 12 variables. Read next: Answering.
-use mathlib.Core.Path.{_≡_, refl, sym, ap, _∙_, subst}
+use mathlib.Core.Path.{_≡_, refl}
 use mathlib.Core.Bool.{Bool, true, false, cond}
-use mathlib.Core.Logic.{_≢_}
 use mathlib.Core.List.{List, _++_}
 use Prim.Native.Nat.{ℕ, _+_, _-_, _*_, _^_, _≤_, _<_}
 use native.Mathlib.Nat.{le-trans, mul-le-mul-left}
 use native.Mathlib.Decide.{ℕ-discrete}
 use native.Mathlib.Omega.{arith}
 use lib.Pow.{pow-mono}
-use lib.ListN.{length, length-append, length-map}
-use borrow.Author.Tests.{ltb-true, ltb-false}
-use Rattle.gf2.specs.Limits.{maxVariables}
+use lib.ListN.{length, length-append}
+use borrow.Author.Tests.{ltb-false}
 use Rattle.gf2.specs.Finite.{Mem}
 use Rattle.gf2.specs.Basis.{canonicalPlaces, variablesAt, isLead}
 use Rattle.gf2.proofs.Finite.{rising-length}
-use Rattle.table.specs.Refusal.{firstFault, sizeFault}
+use Rattle.table.specs.Refusal.{sizeFault}
 use Rattle.table.specs.Table.{Accepted}
 use Rattle.table.proofs.Decide.{decide-accepted, decide-refused}
 use Rattle.stored.specs.Marks.{storedVariables, storedOn, storedFree}
@@ -24,11 +22,11 @@ use Rattle.stored.proofs.Accepting.{stored-accepted}
 use Rattle.space.specs.Closure.{linearSpace, degree}
 use Rattle.space.specs.Completion.{completed}
 use Rattle.space.specs.Restriction.{equations, restriction}
-use Rattle.space.proofs.Closure.{linear-reduced, linear-span, degree-le}
+use Rattle.space.proofs.Closure.{linear-reduced, linear-span}
 use Rattle.space.proofs.Restriction.{linear-equations, restriction-below, restriction-length}
 use Rattle.product.specs.Product.{Factor}
 use Rattle.cubes.specs.Records.{maxListed}
-use Rattle.cover.specs.WrittenForm.{formOf, writtenForm, formSizeFault}
+use Rattle.cover.specs.WrittenForm.{writtenForm, formSizeFault}
 use Rattle.cover.proofs.WrittenForm.{form-factors, table-form-products, table-form-few}
 use Rattle.lines.specs.Words.{variablesWord, degreeWord, canonicalWord, restrictionWord, refusedWord}
 use Rattle.lines.specs.Lines.{numberLine, countsLine, numbersLine, equationLines, productLine, productLines}

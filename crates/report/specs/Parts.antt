@@ -22,7 +22,7 @@ use Rattle.cover.specs.Choice.{chosen}
 use Rattle.cover.specs.WrittenForm.{restrictedVariables, writtenProduct}
 use Rattle.choice.specs.declared.Choice.{Choice}
 use Rattle.choice.specs.Chosen.{chosenBy}
-use Rattle.lines.specs.Lines.{productLine, productLines}
+use Rattle.lines.specs.Lines.{productLines}
 use Rattle.report.specs.Report.{refusedLine, spaceText}
 
 -- The product of a candidate of m variables y1 .. ym with the equations put in.
