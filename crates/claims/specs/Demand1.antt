@@ -20,7 +20,8 @@ use Rattle.cubes.specs.Lists.{keep}
 use Rattle.cubes.specs.Records.{recordsOf}
 use Rattle.cubes.specs.Listing.{Call, listing, listingTests, accepting, refusing, answer, listingRoom}
 use Rattle.writing.specs.Writing.{formBytes, writeTests, writeAccepted, writeRefused, writeAnswer, writeAfter}
-use Rattle.report.specs.Report.{refusedLine, tableText, reportText}
+use Rattle.table_report.specs.Text.{refusedLine, tableText}
+use Rattle.report.specs.Report.{reportText}
 use Rattle.report.specs.Answer.{reportTests, reportAccepted, reportRefused, reportAnswer, reportAfter}
 use Rattle.glospruma.specs.Spaces.{linearSpaceTests, linearSpaceAccepted, linearSpaceRefused, linearSpaceAnswer, completeTests, completeAccepted, completeRefused, completeAnswer, completeRoom, completedRestriction, analyseTests, analyseAccepted, analyseRefused, analyseAnswer, analyseRoom}
 use Rattle.glospruma.specs.Affine.{projected, affineTests, affineAccepted, affineRefused, affineAnswer, affineRoom}

@@ -1,7 +1,6 @@
 -- Worked examples, computed: lines of document 01's P4 and P5. x1 is the highest of n places.
 use mathlib.Core.Path.{_≡_, refl}
-use mathlib.Core.List.{List, [], _∷_, flatMap}
-use Prim.Native.Nat.{ℕ}
+use mathlib.Core.List.{[], _∷_, flatMap}
 use Rattle.gf2.specs.Bits.{bit}
 use Rattle.gf2.specs.Basis.{placesAt}
 use Rattle.product.specs.Product.{factor}

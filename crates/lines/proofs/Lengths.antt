@@ -1,7 +1,7 @@
 -- How long the lines can be. Read next: crate `report`, which adds them up.
-use mathlib.Core.Path.{_≡_, refl, sym, ap, _∙_}
+use mathlib.Core.Path.{_≡_, refl}
 use mathlib.Core.Bool.{Bool}
-use mathlib.Core.Logic.{_⊎_, inl, inr}
+use mathlib.Core.Logic.{inl, inr}
 use mathlib.Core.List.{List, [], _∷_, _++_, flatMap}
 use Prim.Native.Nat.{ℕ, suc, _+_, _-_, _*_, _≤_, _<_}
 use native.Mathlib.Nat.{mul-suc, le-trans, mul-le-mul-left}
@@ -11,12 +11,12 @@ use Rattle.gf2.specs.Bits.{bit}
 use Rattle.gf2.specs.Finite.{Mem}
 use Rattle.gf2.specs.Basis.{placesAt, variablesAt}
 use Rattle.gf2.proofs.Finite.{map-mem}
-use Rattle.gf2.proofs.Variables.{places-mem, places-count}
+use Rattle.gf2.proofs.Variables.{places-count}
 use Rattle.product.specs.Product.{Factor}
 use Rattle.text.specs.Decimal.{decimal}
 use Rattle.text.specs.Pieces.{spacedNumber, spaced, name, names}
 use Rattle.text.proofs.Decimal.{decimal-length}
-use Rattle.lines.specs.Words.{onWord, freeWord, equationLetter, equalsWord, plusWord, noneWord, productWord, oneWord, blankWord, plusSign, equalsSign, lineEnd}
+use Rattle.lines.specs.Words.{freeWord, equalsWord, plusWord, plusSign, equalsSign, lineEnd}
 use Rattle.lines.specs.Lines.{numberLine, countsLine, numbersText, numbersLine, variablesText, equationLine, equationLines, factorText, productText, productLine, productLines}
 
 -- Texts of at most b bytes each.

@@ -1,7 +1,7 @@
 // The lines of the printed report, written into lent bytes: each function takes the bytes and a place, and gives the place after what it wrote
 // (document 01, "The printed report"). Read next: specs/Lib.antt.
 ghost use mathlib.Core.Path.{_≡_};
-ghost use mathlib.Core.List.{_∷_, zipWith, flatMap};
+ghost use mathlib.Core.List.{zipWith, flatMap};
 ghost use Prim.Native.Nat.{_+_, _≤_};
 ghost use lib.ListN.{length};
 ghost use Rattle.gf2.specs.Limits.{maxVariables};

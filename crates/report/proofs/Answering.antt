@@ -1,7 +1,7 @@
 -- What the call that gives the report needs: reading with rooms for every point refuses just what the stored table refuses, a text at the front of
 -- lent bytes, and the answer and the room by the one decision.
 use mathlib.Core.Path.{_≡_, refl, sym, ap, _∙_}
-use mathlib.Core.Bool.{Bool, true, false, cond, _||_}
+use mathlib.Core.Bool.{Bool, true, false, cond}
 use mathlib.Core.Logic.{_≢_}
 use mathlib.Core.List.{List, [], _∷_, _++_}
 use Prim.Native.Nat.{ℕ, _+_, _-_, _^_, _≤_, _<_}
@@ -10,7 +10,7 @@ use native.Mathlib.Omega.{arith}
 use lib.Dec.{ltb}
 use lib.Pow.{pow-mono}
 use lib.ListN.{length, take, drop}
-use lib.Seq.{sets, sets-eq, take-at}
+use lib.Seq.{sets-eq, take-at}
 use borrow.Author.Tests.{le-ltb}
 use Rattle.gf2.proofs.Finite.{rising-length}
 use Rattle.table.specs.Refusal.{Test, firstFault, roomFault}
@@ -22,15 +22,16 @@ use Rattle.table.proofs.Decide.{decide-accepted, decide-refused, call-short, ca
 use Rattle.stored.specs.declared.TableRead.{TableRead}
 use Rattle.stored.specs.Marks.{storedVariables, storedOn, storedFree}
 use Rattle.stored.specs.Stored.{storedTests, storedFault}
-use Rattle.stored.specs.Reading.{readFault, refusedRead, acceptedRead, readAnswer, onAfter, freeAfter}
+use Rattle.stored.specs.Reading.{readFault, acceptedRead, readAnswer, onAfter, freeAfter}
 use Rattle.stored.proofs.Accepting.{stored-accepted}
 use Rattle.stored.proofs.Rooms.{stored-first, then-room, refused-read, accepted-read, accepted-on, accepted-free}
 use Rattle.text.specs.Writing.{HasRoom, Wrote}
 use Rattle.text.proofs.Writing.{wrote-length}
 use Rattle.report.specs.declared.ReportWritten.{ReportWritten}
-use Rattle.report.specs.Report.{refusedLine, tableText, reportText}
+use Rattle.table_report.specs.Text.{refusedLine, tableText}
+use Rattle.table_report.proofs.Fitting.{refused-fits, table-fits}
+use Rattle.report.specs.Report.{reportText}
 use Rattle.report.specs.Answer.{textRoom, reportAccepted, reportRefused, reportAnswer, reportAfter}
-use Rattle.report.proofs.Fitting.{report-fits}
 
 -- ---- the stored table
 
@@ -52,9 +53,22 @@ pub stored-low : (bytes : List ℕ) → storedFault bytes < 100
 unfolding storedFault numbersOf
 stored-low bytes = omega (arith, fault-low (storedTests bytes))
 
+-- Every report fits into `textRoom` bytes.
+pub report-fits : (bytes : List ℕ) → length (reportText bytes) ≤ textRoom
+unfolding reportText storedFault
+report-fits bytes = go (ℕ-discrete (storedFault bytes) 0)
+  where
+    go : Dec (storedFault bytes ≡ 0) → length (reportText bytes) ≤ textRoom
+    go (yes e) =
+        rw (decide-accepted (storedTests bytes) (tableText (storedVariables bytes) (storedOn bytes) (storedFree bytes)) refusedLine e)
+        (omega (arith, table-fits (storedVariables bytes) (storedOn bytes) (storedFree bytes) (stored-accepted bytes e)))
+    go (no z) =
+        rw (decide-refused (storedTests bytes) (tableText (storedVariables bytes) (storedOn bytes) (storedFree bytes)) refusedLine (storedFault bytes) z refl)
+        (omega (arith, refused-fits (storedFault bytes) (stored-low bytes)))
+
 -- A room of `textRoom` bytes is long enough.
 pub report-long : (bytes room : List ℕ) → length room ≡ textRoom → length (reportText bytes) ≤ length room
-report-long bytes room e = omega (arith, report-fits bytes (stored-low bytes))
+report-long bytes room e = omega (arith, report-fits bytes)
 
 pub report-room : (bytes room : List ℕ) → length room ≡ textRoom → HasRoom room 0 (reportText bytes)
 report-room bytes room e = record { fits = omega (arith, report-long bytes room e) }
@@ -184,7 +198,7 @@ module _ (bytes room : List ℕ) where
   -- With a room of `textRoom` bytes, as the program has, the whole report stands at its front.
   pub report-whole : textRoom ≤ length room → (reportAnswer bytes room ≡ reportAccepted bytes) × (take (length (reportText bytes)) (reportAfter bytes room) ≡ reportText bytes)
   report-whole h =
-      let k = report-accepted (omega (arith, report-fits bytes (stored-low bytes))) in
+      let k = report-accepted (omega (arith, report-fits bytes)) in
       (sym (k .0), ap (take (length (reportText bytes))) (sym (k .1)) ∙ take-at (reportText bytes) (drop (length (reportText bytes)) room) (length (reportText bytes)) refl)
 
   -- The number of bytes returned is no more than the room has.

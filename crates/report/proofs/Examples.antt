@@ -25,7 +25,8 @@ use Rattle.cover.specs.WrittenForm.{writtenProduct, formOf, writtenForm, formSi
 use Rattle.text.specs.Decimal.{decimalIn, decimal}
 use Rattle.text.specs.Pieces.{spaced, names}
 use Rattle.lines.specs.Lines.{numberLine, countsLine, numbersLine, variablesText, equationLine, equationLines, factorText, productLine, productLines}
-use Rattle.report.specs.Report.{spaceText, formText, tableText, reportText}
+use Rattle.table_report.specs.Text.{spaceText, formText, tableText}
+use Rattle.report.specs.Report.{reportText}
 
 -- A stored table and its report.
 record Example : Type 0 where

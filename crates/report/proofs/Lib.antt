@@ -1,5 +1,3 @@
--- Laws about the report: the parts it is written in, its length, its call, and worked examples.
-pub mod Parts
-pub mod Fitting
+-- Laws about the report: that it fits, its call, and worked examples.
 pub mod Answering
 pub mod Examples

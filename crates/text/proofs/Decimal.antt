@@ -1,7 +1,7 @@
 -- What a number in decimal is: its digits are bytes `0` to `9`, their value is the number, there is no zero in front, and a number below 10 ^ k has
 -- at most k digits. Read next: Pieces.
 use mathlib.Core.Path.{_≡_, refl, sym, ap, _∙_}
-use mathlib.Core.Logic.{_⊎_, inl, inr}
+use mathlib.Core.Logic.{inl, inr}
 use mathlib.Core.List.{List, [], _∷_, _++_}
 use Prim.Native.Nat.{ℕ, zero, suc, _+_, _-_, _*_, _/_, _%_, _^_, _≤_, _<_}
 use native.Mathlib.Decide.{decLt}

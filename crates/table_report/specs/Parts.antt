@@ -22,8 +22,8 @@ use Rattle.cover.specs.Choice.{chosen}
 use Rattle.cover.specs.WrittenForm.{restrictedVariables, writtenProduct}
 use Rattle.choice.specs.declared.Choice.{Choice}
 use Rattle.choice.specs.Chosen.{chosenBy}
-use Rattle.lines.specs.Lines.{productLine, productLines}
-use Rattle.report.specs.Report.{refusedLine, spaceText}
+use Rattle.lines.specs.Lines.{productLines}
+use Rattle.table_report.specs.Text.{refusedLine, spaceText}
 
 -- The product of a candidate of m variables y1 .. ym with the equations put in.
 abbrev pub productBy : List ℕ → ℕ → Candidate → List Factor

@@ -1,4 +1,4 @@
--- `report::form_lines` meets its contract: `refused 5`, or the products of the primes chosen. Assumes nothing.
+-- `table_report::form_lines` meets its contract: `refused 5`, or the products of the primes chosen. Assumes nothing.
 use mathlib.Core.Path.{sym}
 use native.Mathlib.Omega.{arith}
 use borrow.Author.Needs.{needs}
@@ -6,9 +6,9 @@ use Rattle.basis.specs.Reduced.{vectorsOf}
 use Rattle.basis.proofs.Values.{short-again}
 use Rattle.space.specs.Restriction.{equations}
 use Rattle.text.proofs.Writing.{room-same, wrote-same}
-use Rattle.report.proofs.Parts.{spans-few, basis-refused, basis-chosen, chose-writable}
-use Rattle.report.proofs.form_lines.Statement.{statement}
-use Rattle.report.proofs.form_lines.Tie as tie
+use Rattle.table_report.proofs.Parts.{spans-few, basis-refused, basis-chosen, chose-writable}
+use Rattle.table_report.proofs.form_lines.Statement.{statement}
+use Rattle.table_report.proofs.form_lines.Tie as tie
 
 sub-m : tie.Need-sub-m
 sub-m c = spans-few (c .before .before .before .pre .0 .spans)

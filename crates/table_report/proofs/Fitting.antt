@@ -1,43 +1,35 @@
--- Every report fits into `textRoom` bytes: with n - k above 6 there are at most 4,096 points of at most 5 bytes each and no product line, otherwise
--- at most 64 points and at most 62 products of at most 6 factors of at most 12 variables. Read next: Answering.
-use mathlib.Core.Path.{_≡_, refl, sym, ap, _∙_, subst}
+-- The report of a table has at most 21,566 bytes: with n - k above 6 there are at most 4,096 points of at most 5 bytes each and no product line, otherwise
+-- at most 64 points and at most 62 products of at most 6 factors of at most 12 variables.
+use mathlib.Core.Path.{_≡_, refl}
 use mathlib.Core.Bool.{Bool, true, false, cond}
-use mathlib.Core.Logic.{_≢_}
 use mathlib.Core.List.{List, _++_}
 use Prim.Native.Nat.{ℕ, _+_, _-_, _*_, _^_, _≤_, _<_}
 use native.Mathlib.Nat.{le-trans, mul-le-mul-left}
-use native.Mathlib.Decide.{ℕ-discrete}
 use native.Mathlib.Omega.{arith}
 use lib.Pow.{pow-mono}
-use lib.ListN.{length, length-append, length-map}
-use borrow.Author.Tests.{ltb-true, ltb-false}
-use Rattle.gf2.specs.Limits.{maxVariables}
+use lib.ListN.{length, length-append}
+use borrow.Author.Tests.{ltb-false}
 use Rattle.gf2.specs.Finite.{Mem}
 use Rattle.gf2.specs.Basis.{canonicalPlaces, variablesAt, isLead}
 use Rattle.gf2.proofs.Finite.{rising-length}
-use Rattle.table.specs.Refusal.{firstFault, sizeFault}
+use Rattle.table.specs.Refusal.{sizeFault}
 use Rattle.table.specs.Table.{Accepted}
-use Rattle.table.proofs.Decide.{decide-accepted, decide-refused}
-use Rattle.stored.specs.Marks.{storedVariables, storedOn, storedFree}
-use Rattle.stored.specs.Stored.{storedTests, storedFault}
-use Rattle.stored.proofs.Accepting.{stored-accepted}
 use Rattle.space.specs.Closure.{linearSpace, degree}
 use Rattle.space.specs.Completion.{completed}
 use Rattle.space.specs.Restriction.{equations, restriction}
-use Rattle.space.proofs.Closure.{linear-reduced, linear-span, degree-le}
+use Rattle.space.proofs.Closure.{linear-reduced, linear-span}
 use Rattle.space.proofs.Restriction.{linear-equations, restriction-below, restriction-length}
 use Rattle.product.specs.Product.{Factor}
 use Rattle.cubes.specs.Records.{maxListed}
-use Rattle.cover.specs.WrittenForm.{formOf, writtenForm, formSizeFault}
+use Rattle.cover.specs.WrittenForm.{writtenForm, formSizeFault}
 use Rattle.cover.proofs.WrittenForm.{form-factors, table-form-products, table-form-few}
 use Rattle.lines.specs.Words.{variablesWord, degreeWord, canonicalWord, restrictionWord, refusedWord}
 use Rattle.lines.specs.Lines.{numberLine, countsLine, numbersLine, equationLines, productLine, productLines}
 use Rattle.lines.proofs.Lengths.{two-digits, number-length, counts-length, numbers-length, variables-few, variables-below, equations-length, product-length, products-length}
-use Rattle.report.specs.Report.{refusedLine, spaceText, formText, tableText, reportText}
-use Rattle.report.specs.Answer.{textRoom}
+use Rattle.table_report.specs.Text.{refusedLine, spaceText, formText, tableText}
 
 -- `refused N`
-refused-fits : (number : ℕ) → number < 100 → length (refusedLine number) ≤ 11
+pub refused-fits : (number : ℕ) → number < 100 → length (refusedLine number) ≤ 11
 refused-fits number h = number-length refusedWord number 2 (two-digits number h)
 
 module _ (n : ℕ) (on free : List ℕ) (a : Accepted n on free) where
@@ -99,7 +91,7 @@ module _ (n : ℕ) (on free : List ℕ) (a : Accepted n on free) where
   points-few : (ps : List ℕ) → length ps ≤ 2 ^ n → length ps < 10000
   points-few ps h = let big : 2 ^ n ≤ 4096 = pow-mono {j = 12} (a .few) in omega arith
 
-  table-fits : length (tableText n on free) ≤ textRoom
+  pub table-fits : length (tableText n on free) ≤ 21566
   unfolding tableText formText f bs points
   table-fits =
       omega (
@@ -113,16 +105,3 @@ module _ (n : ℕ) (on free : List ℕ) (a : Accepted n on free) where
         space-fits,
         form-fits (formSizeFault n on free) refl,
       )
-
--- The whole report.
-pub report-fits : (bytes : List ℕ) → storedFault bytes < 100 → length (reportText bytes) ≤ textRoom
-unfolding reportText storedFault
-report-fits bytes low = go (ℕ-discrete (storedFault bytes) 0)
-  where
-    go : Dec (storedFault bytes ≡ 0) → length (reportText bytes) ≤ textRoom
-    go (yes e) =
-        rw (decide-accepted (storedTests bytes) (tableText (storedVariables bytes) (storedOn bytes) (storedFree bytes)) refusedLine e)
-        (table-fits (storedVariables bytes) (storedOn bytes) (storedFree bytes) (stored-accepted bytes e))
-    go (no z) =
-        rw (decide-refused (storedTests bytes) (tableText (storedVariables bytes) (storedOn bytes) (storedFree bytes)) refusedLine (storedFault bytes) z refl)
-        (omega (arith, refused-fits (storedFault bytes) low))

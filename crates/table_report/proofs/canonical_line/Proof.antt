@@ -1,4 +1,4 @@
--- `report::canonical_line` meets its contract: the indices of the canonical variables. Assumes nothing.
+-- `table_report::canonical_line` meets its contract: the indices of the canonical variables. Assumes nothing.
 use mathlib.Core.Path.{sym, ap}
 use borrow.Author.Needs.{needs}
 use Rattle.gf2.specs.Basis.{canonicalPlaces, variablesAt}
@@ -7,8 +7,8 @@ use Rattle.basis.proofs.Values.{short-part, short-fits}
 use Rattle.text.proofs.Writing.{room-same, wrote-same}
 use Rattle.lines.specs.Words.{canonicalWord}
 use Rattle.lines.specs.Lines.{numbersLine}
-use Rattle.report.proofs.canonical_line.Statement.{statement}
-use Rattle.report.proofs.canonical_line.Tie as tie
+use Rattle.table_report.proofs.canonical_line.Statement.{statement}
+use Rattle.table_report.proofs.canonical_line.Tie as tie
 
 canonical-requires : tie.Need-canonical-requires
 canonical-requires c κs = search needs

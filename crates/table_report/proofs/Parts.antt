@@ -41,8 +41,8 @@ use Rattle.choice.specs.Chosen.{chosenAt, chosenBy, Chose}
 use Rattle.text.proofs.Pieces.{pieces}
 use Rattle.lines.specs.Words.{variablesWord}
 use Rattle.lines.specs.Lines.{numberLine, countsLine, productLine, productLines}
-use Rattle.report.specs.Report.{refusedLine, formText, tableText}
-use Rattle.report.specs.Parts.{productBy, choiceText, Writable, formLines, functionText, Spans, Restricts}
+use Rattle.table_report.specs.Text.{refusedLine, formText, tableText}
+use Rattle.table_report.specs.Parts.{productBy, choiceText, Writable, formLines, functionText, Spans, Restricts}
 
 -- A product is the pairs of its constants and its masks.
 pub zip-back : (fs : List Factor) → zipWith factor (map (λ f. f .constant) fs) (map (λ f. f .mask) fs) ≡ fs

@@ -1,4 +1,4 @@
--- `report::table_text` meets its contract: n, the counts, and the lines of the completed function. Assumes nothing.
+-- `table_report::table_text` meets its contract: n, the counts, and the lines of the completed function. Assumes nothing.
 use mathlib.Core.Path.{sym}
 use mathlib.Core.List.{_++_}
 use borrow.Author.Needs.{needs}
@@ -9,10 +9,10 @@ use Rattle.space.specs.Restriction.{restriction}
 use Rattle.text.proofs.Writing.{room-same, room-first, room-then, wrote-same, wrote-both}
 use Rattle.lines.specs.Words.{variablesWord}
 use Rattle.lines.specs.Lines.{numberLine, countsLine}
-use Rattle.report.specs.Parts.{functionText}
-use Rattle.report.proofs.Parts.{table-parts, completed-spans, completed-text}
-use Rattle.report.proofs.table_text.Statement.{statement}
-use Rattle.report.proofs.table_text.Tie as tie
+use Rattle.table_report.specs.Parts.{functionText}
+use Rattle.table_report.proofs.Parts.{table-parts, completed-spans, completed-text}
+use Rattle.table_report.proofs.table_text.Statement.{statement}
+use Rattle.table_report.proofs.table_text.Tie as tie
 
 slice-aggregate-number-line : tie.Need-slice-aggregate-number-line
 slice-aggregate-number-line c = search needs

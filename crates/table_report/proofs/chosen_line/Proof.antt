@@ -1,4 +1,4 @@
--- `report::chosen_line` meets its contract: the line of the prime's product. Assumes nothing.
+-- `table_report::chosen_line` meets its contract: the line of the prime's product. Assumes nothing.
 use mathlib.Core.Path.{sym, ap}
 use borrow.Author.Needs.{needs}
 use Rattle.basis.specs.Short.{listed}
@@ -6,10 +6,10 @@ use Rattle.masks.specs.Entry.{candidateAt}
 use Rattle.masks.proofs.PrimeTest.{entry-candidate}
 use Rattle.text.proofs.Writing.{room-same, wrote-same}
 use Rattle.lines.specs.Lines.{productLine}
-use Rattle.report.specs.Parts.{productBy}
-use Rattle.report.proofs.Parts.{constants-fit, masks-fit, product-same, product-zip}
-use Rattle.report.proofs.chosen_line.Statement.{statement}
-use Rattle.report.proofs.chosen_line.Tie as tie
+use Rattle.table_report.specs.Parts.{productBy}
+use Rattle.table_report.proofs.Parts.{constants-fit, masks-fit, product-same, product-zip}
+use Rattle.table_report.proofs.chosen_line.Statement.{statement}
+use Rattle.table_report.proofs.chosen_line.Tie as tie
 
 product-of-requires : tie.Need-product-of-requires
 product-of-requires c κs =

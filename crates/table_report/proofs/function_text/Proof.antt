@@ -1,11 +1,11 @@
--- `report::function_text` meets its contract: the lines of the space, then those of the form. Assumes nothing.
+-- `table_report::function_text` meets its contract: the lines of the space, then those of the form. Assumes nothing.
 use borrow.Author.Needs.{needs}
 use Rattle.basis.specs.Reduced.{vectorsOf}
 use Rattle.text.proofs.Writing.{room-first, room-then, wrote-both}
-use Rattle.report.specs.Report.{spaceText}
-use Rattle.report.specs.Parts.{formLines, functionText}
-use Rattle.report.proofs.function_text.Statement.{statement}
-use Rattle.report.proofs.function_text.Tie as tie
+use Rattle.table_report.specs.Text.{spaceText}
+use Rattle.table_report.specs.Parts.{formLines, functionText}
+use Rattle.table_report.proofs.function_text.Statement.{statement}
+use Rattle.table_report.proofs.function_text.Tie as tie
 
 space-text-requires : tie.Need-space-text-requires
 unfolding functionText

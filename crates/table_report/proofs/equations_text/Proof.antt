@@ -1,4 +1,4 @@
--- `report::equations_text` meets its contract: a line for each reduction equation. Assumes nothing.
+-- `table_report::equations_text` meets its contract: a line for each reduction equation. Assumes nothing.
 use mathlib.Core.Path.{sym, ap}
 use borrow.Author.Needs.{needs}
 use Rattle.basis.specs.Reduced.{vectorsOf}
@@ -6,8 +6,8 @@ use Rattle.basis.proofs.Values.{short-part, short-fits}
 use Rattle.space.specs.Restriction.{equations}
 use Rattle.text.proofs.Writing.{room-same, wrote-same}
 use Rattle.lines.specs.Lines.{equationLines}
-use Rattle.report.proofs.equations_text.Statement.{statement}
-use Rattle.report.proofs.equations_text.Tie as tie
+use Rattle.table_report.proofs.equations_text.Statement.{statement}
+use Rattle.table_report.proofs.equations_text.Tie as tie
 
 equations-requires : tie.Need-equations-requires
 equations-requires c κs = search needs

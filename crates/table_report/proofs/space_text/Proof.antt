@@ -1,4 +1,4 @@
--- `report::space_text` meets its contract: degree, canonical variables, equations, restriction. Assumes nothing.
+-- `table_report::space_text` meets its contract: degree, canonical variables, equations, restriction. Assumes nothing.
 use mathlib.Core.Path.{sym, ap}
 use mathlib.Core.List.{_++_}
 use borrow.Author.Needs.{needs}
@@ -9,9 +9,9 @@ use Rattle.space.specs.Restriction.{equations}
 use Rattle.text.proofs.Writing.{room-same, room-first, room-then, wrote-same, wrote-both}
 use Rattle.lines.specs.Words.{degreeWord, canonicalWord, restrictionWord}
 use Rattle.lines.specs.Lines.{numberLine, numbersLine, equationLines}
-use Rattle.report.specs.Report.{spaceText}
-use Rattle.report.proofs.space_text.Statement.{statement}
-use Rattle.report.proofs.space_text.Tie as tie
+use Rattle.table_report.specs.Text.{spaceText}
+use Rattle.table_report.proofs.space_text.Statement.{statement}
+use Rattle.table_report.proofs.space_text.Tie as tie
 
 slice-aggregate-number-line : tie.Need-slice-aggregate-number-line
 slice-aggregate-number-line c = search needs

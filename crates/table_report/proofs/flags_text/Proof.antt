@@ -1,4 +1,4 @@
--- `report::flags_text` meets its contract: the points that the lead mask keeps are those of the restriction. Assumes nothing.
+-- `table_report::flags_text` meets its contract: the points that the lead mask keeps are those of the restriction. Assumes nothing.
 use mathlib.Core.Path.{sym, ap, _∙_, subst}
 use Prim.Native.Nat.{ℕ, _≤_}
 use native.Mathlib.Omega.{arith}
@@ -9,10 +9,10 @@ use Rattle.table.specs.Flags.{maxPoints}
 use Rattle.space.specs.Witness.{flagged}
 use Rattle.projection.specs.Masks.{kept}
 use Rattle.text.proofs.Writing.{room-same, wrote-same}
-use Rattle.report.specs.Parts.{functionText, Restricts}
-use Rattle.report.proofs.Parts.{restricts, flags-kept, kept-few, front-fits, front-part}
-use Rattle.report.proofs.flags_text.Statement.{statement}
-use Rattle.report.proofs.flags_text.Tie as tie
+use Rattle.table_report.specs.Parts.{functionText, Restricts}
+use Rattle.table_report.proofs.Parts.{restricts, flags-kept, kept-few, front-fits, front-part}
+use Rattle.table_report.proofs.flags_text.Statement.{statement}
+use Rattle.table_report.proofs.flags_text.Tie as tie
 
 leads-requires : tie.Need-leads-requires
 leads-requires c κs = search needs

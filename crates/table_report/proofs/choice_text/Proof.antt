@@ -1,4 +1,4 @@
--- `report::choice_text` meets its contract: the lines of the primes passed are written. Assumes nothing.
+-- `table_report::choice_text` meets its contract: the lines of the primes passed are written. Assumes nothing.
 use Prim.Native.Nat.{_≤_, _-_}
 use native.Mathlib.Omega.{arith}
 use borrow.Author.Needs.{needs}
@@ -10,10 +10,10 @@ use Rattle.text.specs.Writing.{Wrote}
 use Rattle.text.proofs.Pieces.{pieces}
 use Rattle.text.proofs.Writing.{room-piece, wrote-none, wrote-length, wrote-piece, wrote-pieces}
 use Rattle.lines.specs.Lines.{productLine}
-use Rattle.report.specs.Parts.{productBy}
-use Rattle.report.proofs.Parts.{choice-pieces}
-use Rattle.report.proofs.choice_text.Statement.{statement}
-use Rattle.report.proofs.choice_text.Tie as tie
+use Rattle.table_report.specs.Parts.{productBy}
+use Rattle.table_report.proofs.Parts.{choice-pieces}
+use Rattle.table_report.proofs.choice_text.Statement.{statement}
+use Rattle.table_report.proofs.choice_text.Tie as tie
 
 abbrev Inv-loop : tie.InvT-loop
 Inv-loop room₀ at n equations m degrees points entries count next₀ i₀ room next i =
