@@ -14,6 +14,7 @@
  * - A pointer is never NULL, not even where the length is 0: any address does then. A pointer to 16-bit numbers is even.
  * - A room overlaps no other room and no list of the same call. Lists may overlap.
  * - Nothing else writes to a list or touches a room while the call runs. Calls in several threads are otherwise independent.
+ * - The thread has 128 KiB of stack left. Most calls use far less.
  *
  * Numbers and bytes may be any. A call returns a struct whose first field is 0, or a refusal number of the list below. A refused call has all
  * other numbers 0 and every lent room as it was. An accepted call has its answer at the front of the room, and the rest of the room as it was.

@@ -5,10 +5,10 @@
 //!
 //! Points are numbers below 2^n, n from 1 to 12; x1 is the highest bit of a point
 //! and xn its lowest. A table is n, a rising list of on points and a rising list
-//! of free points; all other points are off. A call takes slices and lent rooms
-//! and allocates nothing. Its answer borrows the front of the room; the rest of
-//! the room is as it was. A refused call gives a [`Refusal`] and leaves every
-//! room as it was.
+//! of free points; all other points are off. A call takes slices and lent rooms,
+//! allocates nothing and needs at most 128 KiB of stack. Its answer borrows the
+//! front of the room; the rest of the room is as it was. A refused call gives a
+//! [`Refusal`] and leaves every room as it was.
 //!
 //! ```
 //! use glospruma::{analyse, write_form, Refusal};

@@ -1,10 +1,11 @@
 //! Comparison of each call of the static library with the reference, one module
 //! to a call; `examples`, `published` and `vectors` compare with fixed answers
 //! instead. `damaged` makes all calls that read bytes on inputs damaged at random,
-//! `guarded` makes every call beside pages that may not be touched, and `safe`
-//! makes the safe calls of the Rust package. Follows document 01, sections "Points
-//! and spaces", "Primes", "The written form", "Refusal numbers", "The printed
-//! report" and "Table of proved examples".
+//! `guarded` makes every call beside pages that may not be touched, `small_stack`
+//! makes them with little stack, and `safe` makes the safe calls of the Rust
+//! package. Follows document 01, sections "Points and spaces", "Primes", "The
+//! written form", "Refusal numbers", "The printed report" and "Table of proved
+//! examples".
 //!
 //! A further call takes a module here with its own `compare` and the inputs of
 //! `tables`, `lists`, `stored` and `forms`; its declaration stands in the package
@@ -34,4 +35,5 @@ mod examples;
 mod guarded;
 mod published;
 mod safe;
+mod small_stack;
 mod vectors;

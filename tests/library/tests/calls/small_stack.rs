@@ -1,0 +1,51 @@
+//! Every call in a thread with as little stack as include/glospruma.h asks for;
+//! one that used more would touch the thread's guard page and stop the test. The
+//! program `stack` prints what each call uses. Follows document 01, section "What
+//! the library holds".
+
+use crate::stored;
+use glospruma::{MAX_POINTS, REPORT_ROOM, WRITTEN_ROOM};
+use reference::generate::{self, Generator};
+use reference::table::Table;
+use std::thread;
+
+/// Bytes of stack that suffice for any call.
+const STACK: usize = 128 * 1024;
+
+/// Makes every call on a table and on what is written for it.
+fn make_calls((n, on, free): &Table) {
+    let (n, bytes) = (*n, stored::bytes_of(&(*n, on.clone(), free.clone())));
+    let (mut points, mut others) = (vec![0; MAX_POINTS], vec![0; MAX_POINTS]);
+    let (mut form, mut text) = (vec![0; WRITTEN_ROOM], vec![0; REPORT_ROOM]);
+    let read = library::read_table(&bytes, &mut points, &mut others);
+    assert_eq!((read.refusal, read.variables), (0, n));
+    assert_eq!(library::linear_space(n, on).refusal, 0);
+    assert_eq!(library::affine(n, on, &mut points).refusal, 0);
+    assert_eq!(library::analyse(n, on, free, &mut points).refusal, 0);
+    assert_eq!(library::complete(n, on, free, &mut points).refusal, 0);
+    let listed = library::list_primes(n, on, free, 0, u64::MAX, &mut text);
+    assert_eq!(listed.refusal, if n > 6 { 5 } else { 0 });
+    let written = library::write_form(n, on, free, &mut form);
+    if written.refusal != 5 {
+        let form = &form[..written.length];
+        assert_eq!(library::form_points(form, &mut points).refusal, 0);
+        assert_eq!(library::form_rewrite(form, &mut text).refusal, 0);
+    }
+    assert_eq!(library::report(&bytes, &mut text).refusal, 0);
+}
+
+#[test]
+fn every_call() {
+    let mut generator = Generator::new(200);
+    let mut tables = vec![];
+    for n in 1..=12 {
+        let function = generate::closed_table(&mut generator, n, n - n.min(6), 60);
+        tables.push(generate::with_free_points(&mut generator, &function, 5));
+        tables.push(function);
+        tables.push(generate::random_table(&mut generator, n, 60, 20));
+    }
+    tables.retain(|(_, on, _)| !on.is_empty());
+    let calls = move || tables.iter().for_each(make_calls);
+    let thread = thread::Builder::new().stack_size(STACK).spawn(calls);
+    thread.expect("a thread").join().expect("no call fails");
+}
