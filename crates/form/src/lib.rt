@@ -23,11 +23,11 @@ use records::Walk;
 pub const MAX_PRODUCTS: usize = 64;
 
 // Where the first product begins, and the lengths of the records that begin a product and give a factor, their kind included.
-const FIRST_PRODUCT: usize = 2;
+pub const FIRST_PRODUCT: usize = 2;
 
 const PRODUCT_LENGTH: usize = 1;
 
-const FACTOR_LENGTH: usize = 4;
+pub const FACTOR_LENGTH: usize = 4;
 
 // What lies behind the walk: how many products, and how many factors the last of them has.
 pub struct Counts {

@@ -8,6 +8,7 @@ use Rattle.basis.specs.declared.Basis.{Basis}
 use Rattle.basis.specs.Reduced.{vectorsOf, IsBasis}
 use Rattle.product.specs.Product.{Factor}
 use Rattle.form.specs.Form.{maxProducts}
+use Rattle.form.specs.Counting.{factorLength}
 use Rattle.cubes.specs.Records.{maxListed}
 use Rattle.masks.specs.Entry.{EntryAt}
 use Rattle.cover.specs.CanonicalProduct.{canonicalProduct}
@@ -34,7 +35,7 @@ productsBy es m r k = map (λ c. substituteProduct es (canonicalProduct m c)) (c
 
 -- The bytes of a product of as many factors: its kind, and four bytes for each factor.
 abbrev pub productLength : ℕ → ℕ
-productLength factors = 1 + 4 * factors
+productLength factors = 1 + factorLength * factors
 
 -- The bytes of the first k products: a candidate of m variables and degree d has m - d factors. That it is so is `products-length`.
 unfoldable pub productsLength : ℕ → List ℕ → ℕ → ℕ

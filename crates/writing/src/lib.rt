@@ -4,6 +4,9 @@ use basis::Basis;
 use basis::ShortList;
 use choice::Choice;
 use factors::FactorList;
+use form::FACTOR_LENGTH;
+use form::FIRST_PRODUCT;
+use masks::MAX_LISTED;
 use table::MAX_POINTS;
 use table::ROOM_FAULT;
 use table::SIZE_FAULT;
@@ -25,17 +28,10 @@ ghost use Rattle.factors.specs.Factors.{productIn, IsProduct};
 ghost use Rattle.writing.specs.Products.{Restricts, Candidates, productsBy, productLength, productsLength, formLength};
 ghost use Rattle.writing.specs.Writing.{writeRefused, writeAnswer, writeAfter};
 
-// The largest number of variables of a restriction whose form is written, as `maxListed` of crate `cubes`.
-const MAX_LISTED: usize = 6;
-
-// The number of points of so many variables.
+// The number of points of the largest restriction whose form is written.
 const MAX_RESTRICTED: usize = 1 << MAX_LISTED;
 
-// Where the first product begins, and the lengths of a factor's record and of the end record, their kind included.
-const FIRST_PRODUCT: usize = 2;
-
-const FACTOR_LENGTH: usize = 4;
-
+// The length of the end record, its kind included.
 const END_LENGTH: usize = 3;
 
 // What writing the form of a table gives: the refusal or 0, how many bytes are written, and how many products the form has.
