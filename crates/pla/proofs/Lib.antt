@@ -1,0 +1,2 @@
+-- Laws about the definitions in specs/; read in this order.
+pub mod Examples
