@@ -1,5 +1,3 @@
--- A truth table in Berkeley PLA, read as a stored table: what its cubes mean, what is refused, and what the call answers. Read in this order.
-pub mod Cubes
-pub mod Meaning
-pub mod Lines
-pub mod Reading
+-- A truth table in Berkeley PLA, one output of it, as a stored table: the table of what was read, and what the call answers. Read in this order.
+pub mod Table
+pub mod Answer

@@ -26,6 +26,10 @@ isInput b = eqb b symbol0 || eqb b symbol1 || eqb b dash
 abbrev pub isOutput : ℕ → Bool
 isOutput b = isInput b || eqb b tilde
 
+-- The most outputs of a table.
+abbrev pub maxOutputs : ℕ
+maxOutputs = 4096
+
 -- The symbols are those of exactly so many inputs and then of exactly so many outputs.
 unfoldable pub isCube : ℕ → ℕ → List ℕ → Bool
 isCube zero zero [] = true
@@ -34,6 +38,12 @@ isCube (suc n) o [] = false
 isCube zero zero (b ∷ bs) = false
 isCube zero (suc o) (b ∷ bs) = isOutput b && isCube zero o bs
 isCube (suc n) o (b ∷ bs) = isInput b && isCube n o bs
+
+-- With so many inputs and outputs to come, the symbol may be the next. That a cube's symbols are taken one by one is `cube-next`.
+abbrev pub takes : ℕ → ℕ → ℕ → Bool
+takes (suc n) o b = isInput b
+takes zero (suc o) b = isOutput b
+takes zero zero b = false
 
 -- A cube as one output sees it: the symbols of the inputs, and that output's symbol.
 pub record Row : Type 0 where

@@ -1,17 +1,16 @@
 -- The lines of a table: what is refused at each, and what is known after it. Read next: Reading.
-use mathlib.Core.Bool.{Bool, true, false, not, _||_, cond}
-use mathlib.Core.List.{List, [], _∷_}
+use mathlib.Core.Bool.{Bool, true, false, not, _||_}
+use mathlib.Core.List.{List, [], _∷_, _++_}
 use Prim.Native.Nat.{ℕ, _+_}
 use lib.Dec.{eqb, leb, ltb}
-use Rattle.gf2.specs.Limits.{maxVariables}
 use Rattle.table.specs.Refusal.{Test, test, firstFault}
 use Rattle.table.specs.Table.{badCount}
 use Rattle.pla_text.specs.declared.Statement.{Statement}
 use Rattle.pla_text.specs.declared.Statement.the-variants.{Empty, Wrong, Inputs, Outputs, Products, Meaning, Names, End, Cube}
 use Rattle.pla_text.specs.Numbers.{noNumber}
-use Rattle.pla.specs.declared.Head.{Head}
-use Rattle.pla.specs.Cubes.{Row, isCube, rowOf}
-use Rattle.pla.specs.Meaning.{contradicts}
+use Rattle.pla_cubes.specs.Cubes.{Row, isCube, rowOf, maxOutputs}
+use Rattle.pla_cubes.specs.Meaning.{contradicts}
+use Rattle.pla_lines.specs.declared.Head.{Head}
 
 -- ---- the refusal numbers of a line
 
@@ -43,10 +42,6 @@ cubeFault = 36
 abbrev pub contradictionFault : ℕ
 contradictionFault = 37
 
--- The most outputs of a table.
-abbrev pub maxOutputs : ℕ
-maxOutputs = 4096
-
 -- ---- what is known before a line
 
 -- Nothing: numbers that are not given yet are 0, and so is the type.
@@ -75,30 +70,46 @@ badOutputs count = eqb count 0 || ltb maxOutputs count
 abbrev pub rowsWith : ℕ → Head → List ℕ → List Row → List Row
 rowsWith output head symbols rows = rowOf (head .variables) output symbols ∷ rows
 
--- The tests of a line in their order, by its statement; of a cube, by its symbols and the rows before it.
-abbrev pub lineTests : ℕ → Head → List Row → List ℕ → Statement → List Test
-lineTests output head rows symbols Empty = []
-lineTests output head rows symbols Wrong = afterEnd head ∷ test directiveFault true ∷ []
-lineTests output head rows symbols (Inputs count) =
-    afterEnd head ∷ outOfTurn head (known (head .variables)) ∷ test inputsFault (badCount count) ∷ []
-lineTests output head rows symbols (Outputs count) =
-    afterEnd head ∷ outOfTurn head (known (head .outputs)) ∷ test outputsFault (badOutputs count) ∷ []
-lineTests output head rows symbols (Products count) =
-    afterEnd head ∷ outOfTurn head (head .counted) ∷ test directiveFault (leb noNumber count) ∷ []
-lineTests output head rows symbols (Meaning kind) =
-    afterEnd head ∷ outOfTurn head (known (head .kind)) ∷ test directiveFault (eqb kind 0) ∷ []
-lineTests output head rows symbols Names = afterEnd head ∷ []
-lineTests output head rows symbols End = afterEnd head ∷ []
-lineTests output head rows symbols Cube =
+-- The tests of a directive in their order.
+abbrev pub directiveTests : Head → Statement → List Test
+directiveTests head Empty = []
+directiveTests head Wrong = afterEnd head ∷ test directiveFault true ∷ []
+directiveTests head (Inputs count) = afterEnd head ∷ outOfTurn head (known (head .variables)) ∷ test inputsFault (badCount count) ∷ []
+directiveTests head (Outputs count) = afterEnd head ∷ outOfTurn head (known (head .outputs)) ∷ test outputsFault (badOutputs count) ∷ []
+directiveTests head (Products count) = afterEnd head ∷ outOfTurn head (head .counted) ∷ test directiveFault (leb noNumber count) ∷ []
+directiveTests head (Meaning kind) = afterEnd head ∷ outOfTurn head (known (head .kind)) ∷ test directiveFault (eqb kind 0) ∷ []
+directiveTests head Names = afterEnd head ∷ []
+directiveTests head End = afterEnd head ∷ []
+directiveTests head Cube = []
+
+-- The tests of a cube by itself.
+abbrev pub shapeTests : Head → List ℕ → List Test
+shapeTests head symbols =
     afterEnd head ∷
     test sequenceFault (eqb (head .variables) 0 || eqb (head .outputs) 0) ∷
     test cubeFault (not (isCube (head .variables) (head .outputs) symbols)) ∷
-    test contradictionFault (contradicts (head .kind) (head .variables) (rowsWith output head symbols rows)) ∷
     []
 
--- The refusal of a line, or 0.
+-- The tests of a cube in their order: the last is about the rows before it and its own.
+abbrev pub cubeTests : ℕ → Head → List Row → List ℕ → List Test
+cubeTests output head rows symbols =
+    shapeTests head symbols ++ (test contradictionFault (contradicts (head .kind) (head .variables) (rowsWith output head symbols rows)) ∷ [])
+
+-- One thing for a cube, another for every other statement.
+abbrev pub forCube : {A : Type 0} → Statement → A → A → A
+forCube Cube a b = a
+forCube Empty a b = b
+forCube Wrong a b = b
+forCube (Inputs count) a b = b
+forCube (Outputs count) a b = b
+forCube (Products count) a b = b
+forCube (Meaning kind) a b = b
+forCube Names a b = b
+forCube End a b = b
+
+-- The refusal of a line, or 0, by its statement and its symbols.
 unfoldable pub lineFault : ℕ → Head → List Row → List ℕ → Statement → ℕ
-lineFault output head rows symbols statement = firstFault (lineTests output head rows symbols statement)
+lineFault output head rows symbols statement = firstFault (forCube statement (cubeTests output head rows symbols) (directiveTests head statement))
 
 -- ---- what is known after a line
 
@@ -113,13 +124,6 @@ headAfter head Names = head
 headAfter head End = record { variables = head .variables; outputs = head .outputs; kind = head .kind; counted = head .counted; products = head .products; cubes = head .cubes; ended = true }
 headAfter head Cube = record { variables = head .variables; outputs = head .outputs; kind = head .kind; counted = head .counted; products = head .products; cubes = head .cubes + 1; ended = head .ended }
 
-unfoldable pub rowsAfter : ℕ → Head → List Row → List ℕ → Statement → List Row
-rowsAfter output head rows symbols Empty = rows
-rowsAfter output head rows symbols Wrong = rows
-rowsAfter output head rows symbols (Inputs count) = rows
-rowsAfter output head rows symbols (Outputs count) = rows
-rowsAfter output head rows symbols (Products count) = rows
-rowsAfter output head rows symbols (Meaning kind) = rows
-rowsAfter output head rows symbols Names = rows
-rowsAfter output head rows symbols End = rows
-rowsAfter output head rows symbols Cube = rowsWith output head symbols rows
+-- A cube adds its row.
+abbrev pub rowsAfter : ℕ → Head → List Row → List ℕ → Statement → List Row
+rowsAfter output head rows symbols statement = forCube statement (rowsWith output head symbols rows) rows

@@ -1,0 +1,107 @@
+-- What is written is a stored table: its reader accepts it and reads back n, the on points and the free points (`table-stored`, `call-stored`).
+use mathlib.Core.Path.{_≡_, refl, sym, ap, _∙_, subst}
+use mathlib.Core.Bool.{Bool, true, false, cond, not, _&&_, _||_}
+use mathlib.Core.Logic.{_≢_, inl, inr}
+use mathlib.Core.List.{List, [], _∷_, _++_, map, append-nil}
+use Prim.Native.Nat.{ℕ, zero, suc, _^_, _≤_, _<_}
+use native.Mathlib.Omega.{arith}
+use lib.Dec.{eqb}
+use lib.ListN.{length}
+use lib.Pow.{pow-mono}
+use Rattle.gf2.specs.Limits.{maxVariables}
+use Rattle.gf2.specs.Finite.{Mem, Rising, select}
+use Rattle.gf2.proofs.Finite.{map-snoc, select-mem, select-rising}
+use Rattle.table.specs.Flags.{maxPoints}
+use Rattle.table.specs.Refusal.{firstFault}
+use Rattle.table.specs.Table.{badCount, outside, unordered}
+use Rattle.table.proofs.Table.{good-count, not-outside, not-unordered}
+use Rattle.stored.specs.Marks.{Mark, mark, marks, pointsOf, storedVariables, storedPoints, storedOn, storedFree}
+use Rattle.stored.specs.Encoding.{encodeTable}
+use Rattle.stored.specs.Layout.{walked}
+use Rattle.stored.specs.Stored.{storedTests, storedFault}
+use Rattle.stored.proofs.Encodings.{encoded-laid, encoded-variables, encoded-marks}
+use Rattle.stored.proofs.Points.{points-append}
+use Rattle.pla_cubes.specs.Cubes.{Row}
+use Rattle.pla_cubes.specs.Meaning.{onAt, freeAt}
+use Rattle.pla.specs.Table.{markOf, marksBelow, marksOf, storedTable}
+use Rattle.pla.proofs.Marking.{marks-few}
+
+-- The bytes are a stored table of n variables with these on and free points.
+pub record Stored (n : ℕ) (on free : ℕ → Bool) (bytes : List ℕ) : Type 0 where
+  pub accepted : storedFault bytes ≡ 0
+  pub variables : storedVariables bytes ≡ n
+  pub on-points : storedOn bytes ≡ select on (2 ^ n)
+  pub free-points : storedFree bytes ≡ select (λ p. not (on p) && free p) (2 ^ n)
+
+-- ---- the points of the marks
+
+module _ (on free : ℕ → Bool) where
+  all-points : (k : ℕ) → map (λ m. m .point) (marksBelow on free k) ≡ select (λ p. on p || free p) k
+  unfolding marksBelow markOf select
+  all-points zero = refl
+  all-points (suc k) = go (on k) (free k) (all-points k)
+    where
+      go : (a b : Bool) → map (λ m. m .point) (marksBelow on free k) ≡ select (λ p. on p || free p) k
+          → map (λ m. m .point) (marksBelow on free k ++ markOf a b k) ≡ cond (a || b) (select (λ p. on p || free p) k ++ (k ∷ [])) (select (λ p. on p || free p) k)
+      go true b e = map-snoc (λ m. m .point) (marksBelow on free k) (mark true k) ∙ ap (λ (l : List ℕ). l ++ (k ∷ [])) e
+      go false true e = map-snoc (λ m. m .point) (marksBelow on free k) (mark false k) ∙ ap (λ (l : List ℕ). l ++ (k ∷ [])) e
+      go false false e = ap (map (λ m. m .point)) (append-nil (marksBelow on free k)) ∙ e
+
+  on-marked : (k : ℕ) → pointsOf true (marksBelow on free k) ≡ select on k
+  unfolding marksBelow markOf select pointsOf
+  on-marked zero = refl
+  on-marked (suc k) = points-append true (marksBelow on free k) (markOf (on k) (free k) k) ∙ go (on k) (free k) (on-marked k)
+    where
+      go : (a b : Bool) → pointsOf true (marksBelow on free k) ≡ select on k
+          → pointsOf true (marksBelow on free k) ++ pointsOf true (markOf a b k) ≡ cond a (select on k ++ (k ∷ [])) (select on k)
+      go true b e = ap (λ (l : List ℕ). l ++ (k ∷ [])) e
+      go false true e = append-nil (pointsOf true (marksBelow on free k)) ∙ e
+      go false false e = append-nil (pointsOf true (marksBelow on free k)) ∙ e
+
+  free-marked : (k : ℕ) → pointsOf false (marksBelow on free k) ≡ select (λ p. not (on p) && free p) k
+  unfolding marksBelow markOf select pointsOf
+  free-marked zero = refl
+  free-marked (suc k) = points-append false (marksBelow on free k) (markOf (on k) (free k) k) ∙ go (on k) (free k) (free-marked k)
+    where
+      go : (a b : Bool) → pointsOf false (marksBelow on free k) ≡ select (λ p. not (on p) && free p) k
+          → pointsOf false (marksBelow on free k) ++ pointsOf false (markOf a b k)
+          ≡ cond (not a && b) (select (λ p. not (on p) && free p) k ++ (k ∷ [])) (select (λ p. not (on p) && free p) k)
+      go true b e = append-nil (pointsOf false (marksBelow on free k)) ∙ e
+      go false true e = ap (λ (l : List ℕ). l ++ (k ∷ [])) e
+      go false false e = append-nil (pointsOf false (marksBelow on free k)) ∙ e
+
+-- ---- the table
+
+module _ (on free : ℕ → Bool) (n : ℕ) (some : 1 ≤ n) (few : n ≤ maxVariables) where
+  abbrev ms : List Mark
+  ms = marksBelow on free (2 ^ n)
+
+  sound : storedFault (encodeTable n ms) ≡ 0
+  unfolding storedFault firstFault
+  sound =
+      let long : length ms ≤ maxPoints = omega (arith, marks-few on free (2 ^ n), pow-mono few) in
+      let points = all-points on free (2 ^ n) in
+      let below : (p : ℕ) → Mem p (map (λ m. m .point) ms) → p < 2 ^ n = λ p k. select-mem (λ q. on q || free q) (2 ^ n) p (rw points at k) .0 in
+      let rises : Rising (map (λ m. m .point) ms) = rw points (select-rising (λ q. on q || free q) (2 ^ n)) in
+      rw (
+        encoded-laid n ms long,
+        encoded-variables n ms,
+        encoded-marks n ms,
+        good-count n .1 (some, few),
+        not-outside n (map (λ m. m .point) ms) below,
+        not-unordered (map (λ m. m .point) ms) rises,
+      )
+
+  pub marks-stored : Stored n on free (encodeTable n ms)
+  marks-stored =
+      record {
+        accepted = sound;
+        variables = encoded-variables n ms;
+        on-points = ap (pointsOf true) (encoded-marks n ms) ∙ on-marked on free (2 ^ n);
+        free-points = ap (pointsOf false) (encoded-marks n ms) ∙ free-marked on free (2 ^ n);
+      }
+
+-- The stored table of rows.
+pub table-stored : (kind n : ℕ) (rows : List Row) → 1 ≤ n → n ≤ maxVariables → Stored n (onAt rows) (freeAt kind rows) (storedTable kind n rows)
+unfolding storedTable
+table-stored kind n rows some few = marks-stored (onAt rows) (freeAt kind rows) n some few
