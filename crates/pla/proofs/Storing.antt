@@ -4,27 +4,36 @@ use mathlib.Core.Bool.{Bool, true, false, cond, not, _&&_, _||_}
 use mathlib.Core.Logic.{_≢_, inl, inr}
 use mathlib.Core.List.{List, [], _∷_, _++_, map, append-nil}
 use Prim.Native.Nat.{ℕ, zero, suc, _^_, _≤_, _<_}
+use native.Mathlib.Decide.{ℕ-discrete}
 use native.Mathlib.Omega.{arith}
 use lib.Dec.{eqb}
 use lib.ListN.{length}
 use lib.Pow.{pow-mono}
+use borrow.Author.Tests.{eqb-false}
 use Rattle.gf2.specs.Limits.{maxVariables}
-use Rattle.gf2.specs.Finite.{Mem, Rising, select}
+use Rattle.gf2.specs.Finite.{Mem, holds, Rising, select}
+use Rattle.gf2.proofs.Logic.{or-none}
 use Rattle.gf2.proofs.Finite.{map-snoc, select-mem, select-rising}
 use Rattle.table.specs.Flags.{maxPoints}
 use Rattle.table.specs.Refusal.{firstFault}
-use Rattle.table.specs.Table.{badCount, outside, unordered}
+use Rattle.table.specs.Decision.{front, roomTest}
+use Rattle.table.proofs.Refusal.{no-fault, numbered, fault-before}
+use Rattle.table.proofs.Decide.{decide-accepted, decide-refused}
 use Rattle.table.proofs.Table.{good-count, not-outside, not-unordered}
 use Rattle.stored.specs.Marks.{Mark, mark, marks, pointsOf, storedVariables, storedPoints, storedOn, storedFree}
 use Rattle.stored.specs.Encoding.{encodeTable}
-use Rattle.stored.specs.Layout.{walked}
 use Rattle.stored.specs.Stored.{storedTests, storedFault}
 use Rattle.stored.proofs.Encodings.{encoded-laid, encoded-variables, encoded-marks}
 use Rattle.stored.proofs.Points.{points-append}
 use Rattle.pla_cubes.specs.Cubes.{Row}
 use Rattle.pla_cubes.specs.Meaning.{onAt, freeAt}
+use Rattle.pla_lines.specs.Reading.{Found, readText}
+use Rattle.pla_lines.proofs.Going.{text-bounded}
+use Rattle.pla.specs.declared.PlaRead.{PlaRead}
+use Rattle.pla.specs.Answer.{endTests, textTests, tableFound, plaTests, acceptedPla, refusedPla, plaAnswer, plaAfter}
 use Rattle.pla.specs.Table.{markOf, marksBelow, marksOf, storedTable}
 use Rattle.pla.proofs.Marking.{marks-few}
+use Rattle.pla.proofs.Answering.{line-fault, end-faults}
 
 -- The bytes are a stored table of n variables with these on and free points.
 pub record Stored (n : ℕ) (on free : ℕ → Bool) (bytes : List ℕ) : Type 0 where
@@ -105,3 +114,46 @@ module _ (on free : ℕ → Bool) (n : ℕ) (some : 1 ≤ n) (few : n ≤ maxVar
 pub table-stored : (kind n : ℕ) (rows : List Row) → 1 ≤ n → n ≤ maxVariables → Stored n (onAt rows) (freeAt kind rows) (storedTable kind n rows)
 unfolding storedTable
 table-stored kind n rows some few = marks-stored (onAt rows) (freeAt kind rows) n some few
+
+-- ---- the call
+
+module _ (text : List ℕ) (output : ℕ) (room : List ℕ) (accepts : plaAnswer text output room .refusal ≡ 0) where
+  abbrev f : Found
+  f = readText output text
+
+  none : firstFault (plaTests output f room) ≡ 0
+  unfolding plaAnswer
+  none = go (ℕ-discrete (firstFault (plaTests output f room)) 0)
+    where
+      go : Dec (firstFault (plaTests output f room) ≡ 0) → firstFault (plaTests output f room) ≡ 0
+      go (yes e) = e
+      go (no n) = absurd (n (ap (λ (r : PlaRead). r .refusal) (sym (decide-refused (plaTests output f room) (acceptedPla f) (refusedPla f) _ n refl)) ∙ accepts))
+
+  text-none : firstFault (textTests output f) ≡ 0
+  text-none = go (ℕ-discrete (firstFault (textTests output f)) 0)
+    where
+      go : Dec (firstFault (textTests output f) ≡ 0) → firstFault (textTests output f) ≡ 0
+      go (yes e) = e
+      go (no n) = sym (fault-before (textTests output f) (roomTest (tableFound f) room) n) ∙ none
+
+  no-line : f .fault ≡ 0
+  no-line = go (ℕ-discrete (f .fault) 0)
+    where
+      go : Dec (f .fault ≡ 0) → f .fault ≡ 0
+      go (yes e) = e
+      go (no n) = line-fault output f n ∙ text-none
+
+  some-inputs : 1 ≤ f .head .variables
+  unfolding holds
+  some-inputs =
+      let e = no-fault (endTests output (f .head)) (numbered (endTests output (f .head)) refl) .0 (end-faults output f no-line ∙ text-none) _ (inl refl) in
+      let z = eqb-false (f .head .variables) 0 (or-none (eqb (f .head .variables) 0) (eqb (f .head .outputs) 0) e .0) in
+      omega (arith, z)
+
+  -- An accepted call has written the stored table of what was found, and it is accepted by the table's reader.
+  pub call-stored : Stored (f .head .variables) (onAt (f .rows)) (freeAt (f .head .kind) (f .rows)) (tableFound f) × (plaAfter text output room ≡ front (tableFound f) room)
+  unfolding plaAfter
+  call-stored = (
+    table-stored (f .head .kind) (f .head .variables) (f .rows) some-inputs (text-bounded output text),
+    decide-accepted (plaTests output f room) (front (tableFound f) room) (λ number. room) none,
+  )
