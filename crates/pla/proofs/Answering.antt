@@ -1,23 +1,23 @@
 -- Laws of specs.Answer: the refusals in their order, and what the call answers by what it found.
 use mathlib.Core.Path.{_≡_, refl, sym, ap, _∙_}
-use mathlib.Core.Bool.{Bool, false, not}
+use mathlib.Core.Bool.{Bool, true, false, not}
 use mathlib.Core.Logic.{_≢_, inl, inr}
 use mathlib.Core.List.{List, [], _∷_}
 use Prim.Native.Nat.{ℕ, _+_, _*_, _^_, _≤_, _<_}
 use native.Mathlib.Decide.{ℕ-discrete}
 use native.Mathlib.Omega.{arith}
-use lib.ListN.{length, getD}
+use lib.Dec.{ltb}
+use lib.ListN.{length}
 use lib.Pow.{pow-mono}
-use borrow.Author.Tests.{eq-eqb, ne-eqb}
+use borrow.Author.Tests.{eq-eqb, ne-eqb, ltb-true, ltb-false}
 use Rattle.gf2.specs.Limits.{maxVariables}
-use Rattle.gf2.specs.Finite.{Mem, holds}
+use Rattle.gf2.specs.Finite.{holds}
 use Rattle.table.specs.Refusal.{Test, firstFault, Numbered, roomFault}
 use Rattle.table.specs.Decision.{front}
 use Rattle.table.proofs.Refusal.{numbered}
 use Rattle.table.proofs.Decide.{call-refused, call-short, call-accepted}
 use Rattle.stored.specs.Encoding.{encodeTable}
 use Rattle.pla_cubes.specs.Cubes.{Row}
-use Rattle.pla_cubes.specs.Meaning.{freeBy}
 use Rattle.pla_cubes.specs.Flagging.{Flagged}
 use Rattle.pla_cubes.specs.declared.Flags.{Flags}
 use Rattle.pla_lines.specs.declared.Head.{Head}
@@ -138,3 +138,18 @@ module _ (text : List ℕ) (output : ℕ) (r : Reading) (a : Agrees r (readText 
         ap (λ (x : ℕ). record { refusal = 0; line = 0; length = x }) (l ∙ sym same-table-length) ∙ k .0,
         q ∙ ap (λ (t : List ℕ). front t room) same-table ∙ k .1,
       )
+
+-- ---- the length returned
+
+-- What is written lies in the room.
+pub pla-length : (text : List ℕ) (output : ℕ) (room : List ℕ) → plaAnswer text output room .length ≤ length room
+pla-length text output room = go (ℕ-discrete (firstFault (textTests output (readText output text))) 0) (ltb (length room) (length (tableFound (readText output text)))) refl
+  where
+    go : Dec (firstFault (textTests output (readText output text)) ≡ 0) → (t : Bool) → ltb (length room) (length (tableFound (readText output text))) ≡ t
+        → plaAnswer text output room .length ≤ length room
+    go (no n) t e = let k = ap (λ (r : PlaRead). r .length) (pla-refused text output room _ refl n .0) in omega (arith, k)
+    go (yes z) true e = let k = ap (λ (r : PlaRead). r .length) (pla-short text output room z (ltb-true _ _ e) .0) in omega (arith, k)
+    go (yes z) false e =
+        let fits = ltb-false (length room) (length (tableFound (readText output text))) e in
+        let k = ap (λ (r : PlaRead). r .length) (pla-accepted text output room z fits .0) in
+        omega (arith, k, fits)

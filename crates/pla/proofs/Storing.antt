@@ -1,7 +1,7 @@
 -- What is written is a stored table: its reader accepts it and reads back n, the on points and the free points (`table-stored`, `call-stored`).
-use mathlib.Core.Path.{_≡_, refl, sym, ap, _∙_, subst}
+use mathlib.Core.Path.{_≡_, refl, sym, ap, _∙_}
 use mathlib.Core.Bool.{Bool, true, false, cond, not, _&&_, _||_}
-use mathlib.Core.Logic.{_≢_, inl, inr}
+use mathlib.Core.Logic.{inl}
 use mathlib.Core.List.{List, [], _∷_, _++_, map, append-nil}
 use Prim.Native.Nat.{ℕ, zero, suc, _^_, _≤_, _<_}
 use native.Mathlib.Decide.{ℕ-discrete}
@@ -20,9 +20,9 @@ use Rattle.table.specs.Decision.{front, roomTest}
 use Rattle.table.proofs.Refusal.{no-fault, numbered, fault-before}
 use Rattle.table.proofs.Decide.{decide-accepted, decide-refused}
 use Rattle.table.proofs.Table.{good-count, not-outside, not-unordered}
-use Rattle.stored.specs.Marks.{Mark, mark, marks, pointsOf, storedVariables, storedPoints, storedOn, storedFree}
+use Rattle.stored.specs.Marks.{Mark, mark, pointsOf, storedVariables, storedOn, storedFree}
 use Rattle.stored.specs.Encoding.{encodeTable}
-use Rattle.stored.specs.Stored.{storedTests, storedFault}
+use Rattle.stored.specs.Stored.{storedFault}
 use Rattle.stored.proofs.Encodings.{encoded-laid, encoded-variables, encoded-marks}
 use Rattle.stored.proofs.Points.{points-append}
 use Rattle.pla_cubes.specs.Cubes.{Row}
@@ -31,7 +31,7 @@ use Rattle.pla_lines.specs.Reading.{Found, readText}
 use Rattle.pla_lines.proofs.Going.{text-bounded}
 use Rattle.pla.specs.declared.PlaRead.{PlaRead}
 use Rattle.pla.specs.Answer.{endTests, textTests, tableFound, plaTests, acceptedPla, refusedPla, plaAnswer, plaAfter}
-use Rattle.pla.specs.Table.{markOf, marksBelow, marksOf, storedTable}
+use Rattle.pla.specs.Table.{markOf, marksBelow, storedTable}
 use Rattle.pla.proofs.Marking.{marks-few}
 use Rattle.pla.proofs.Answering.{line-fault, end-faults}
 

@@ -10,7 +10,7 @@ ghost use Rattle.table.specs.Flags.{maxPoints};
 ghost use Rattle.pla_text.specs.Text.{symbolsOf};
 ghost use Rattle.pla_cubes.specs.Cubes.{Row, allows, covers, isCube, isInput, isOutput, maxOutputs, rowOf, takes};
 ghost use Rattle.pla_cubes.specs.Meaning.{apartBelow};
-ghost use Rattle.pla_cubes.specs.Flagging.{Flagged, Marks};
+ghost use Rattle.pla_cubes.specs.Flagging.{Flagged};
 use gf2::MAX_VARIABLES;
 use table::MAX_POINTS;
 

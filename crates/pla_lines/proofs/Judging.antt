@@ -3,32 +3,31 @@ use mathlib.Core.Path.{_≡_, refl, sym, ap, _∙_}
 use mathlib.Core.Bool.{Bool, true, false, not, _&&_, _||_}
 use mathlib.Core.Logic.{_≢_, inl, inr}
 use mathlib.Core.List.{List, [], _∷_}
-use Prim.Native.Nat.{ℕ, suc, _+_, _^_, _≤_, _<_}
+use Prim.Native.Nat.{ℕ, _+_, _^_, _≤_, _<_}
 use native.Mathlib.Decide.{ℕ-discrete}
 use native.Mathlib.Omega.{arith}
 use lib.Dec.{eqb, ltb}
-use lib.ListN.{length, getD, take}
+use lib.ListN.{length, getD}
 use lib.Pow.{pow-mono}
-use borrow.Author.Tests.{eq-eqb, ne-eqb, not-true, not-false, le-ltb, ltb-false}
+use borrow.Author.Tests.{ne-eqb, not-false, ltb-false}
 use Rattle.gf2.specs.Limits.{maxVariables}
 use Rattle.gf2.specs.Finite.{holds}
 use Rattle.gf2.proofs.Finite.{all-ext}
 use Rattle.table.specs.Refusal.{Test, test, firstFault, Numbered}
-use Rattle.table.specs.Table.{badCount}
 use Rattle.table.proofs.Refusal.{no-fault, numbered, fault-append, fault-before}
 use Rattle.table.proofs.Table.{good-count}
 use Rattle.pla_text.specs.declared.Statement.{Statement}
 use Rattle.pla_text.specs.declared.Statement.the-variants.{Empty, Wrong, Inputs, Outputs, Products, Meaning, Names, End, Cube}
 use Rattle.pla_text.specs.Statements.{typeFr}
-use Rattle.pla_cubes.specs.Cubes.{Row, isCube, rowOf, maxOutputs, says, symbol0, symbol1}
+use Rattle.pla_cubes.specs.Cubes.{Row, rowOf, maxOutputs}
 use Rattle.pla_cubes.specs.Meaning.{apartBelow, contradicts}
 use Rattle.pla_cubes.specs.Flagging.{Flagged}
 use Rattle.pla_cubes.specs.declared.Flags.{Flags}
 use Rattle.pla_cubes.proofs.Shapes.{cube-length}
 use Rattle.pla_lines.specs.declared.Head.{Head}
 use Rattle.pla_lines.specs.declared.Reading.{Reading}
-use Rattle.pla_lines.specs.Lines.{directiveTests, shapeTests, cubeTests, lineFault, headAfter, rowsAfter, contradictionFault, badOutputs}
-use Rattle.pla_lines.specs.Reading.{Found, found, readStatement}
+use Rattle.pla_lines.specs.Lines.{directiveTests, shapeTests, lineFault, headAfter, rowsAfter, contradictionFault, badOutputs}
+use Rattle.pla_lines.specs.Reading.{found, readStatement}
 use Rattle.pla_lines.specs.Bounds.{Bounded, Agrees}
 
 -- ---- a statement that is no cube

@@ -6,7 +6,7 @@ use lib.Dec.{eqb, ltb}
 use lib.ListN.{length, getD}
 use Rattle.pla_text.specs.declared.Statement.{Statement}
 use Rattle.pla_text.specs.declared.Statement.the-variants.{Empty, Wrong, Inputs, Outputs, Products, Meaning, Names, End, Cube}
-use Rattle.pla_text.specs.Text.{sameBytes, contentOf, wordsOf}
+use Rattle.pla_text.specs.Text.{sameBytes}
 use Rattle.pla_text.specs.Numbers.{numberOf}
 
 -- A directive begins with a full stop.

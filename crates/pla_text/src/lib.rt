@@ -1,7 +1,7 @@
 // The text of a truth table in Berkeley PLA: walks over its bytes, numbers, and the statement that a line makes. What the words mean is in
 // specs/, the laws about them in proofs/. Read next: specs/Text.antt.
 ghost use mathlib.Core.Path.{_≡_};
-ghost use Prim.Native.Nat.{ℕ, _+_, _≤_, _<_};
+ghost use Prim.Native.Nat.{_+_, _≤_, _<_};
 ghost use lib.ListN.{length, getD, drop};
 ghost use Rattle.pla_text.specs.Text.{stops, until, sameBytes, symbolsOf, wordsOf};
 ghost use Rattle.pla_text.specs.Numbers.{withDigit, numberOf};
@@ -111,7 +111,7 @@ fn with_digit(value: usize, byte: u8) -> usize
 }
 
 // The number that a word stands for.
-fn number(word: &[u8]) -> usize
+pub fn number(word: &[u8]) -> usize
     ensures { λ r. ⌜ r ≡ numberOf (now (word .entry)) ⌝ }
 {
     let mut value = 0;
