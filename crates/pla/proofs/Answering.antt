@@ -12,10 +12,11 @@ use lib.Pow.{pow-mono}
 use borrow.Author.Tests.{eq-eqb, ne-eqb, ltb-true, ltb-false}
 use Rattle.gf2.specs.Limits.{maxVariables}
 use Rattle.gf2.specs.Finite.{holds}
-use Rattle.table.specs.Refusal.{Test, firstFault, Numbered, roomFault}
-use Rattle.table.specs.Decision.{front}
+use Rattle.gf2.proofs.Finite.{append-mem}
+use Rattle.table.specs.Refusal.{Test, firstFault, Numbered, Exact, roomFault}
+use Rattle.table.specs.Decision.{front, roomTest}
 use Rattle.table.proofs.Refusal.{numbered}
-use Rattle.table.proofs.Decide.{call-refused, call-short, call-accepted}
+use Rattle.table.proofs.Decide.{decide-exact, call-refused, call-short, call-accepted}
 use Rattle.stored.specs.Encoding.{encodeTable}
 use Rattle.pla_cubes.specs.Cubes.{Row}
 use Rattle.pla_cubes.specs.Flagging.{Flagged}
@@ -27,7 +28,7 @@ use Rattle.pla_lines.specs.Bounds.{Agrees}
 use Rattle.pla_lines.proofs.Going.{text-bounded}
 use Rattle.pla.specs.declared.PlaRead.{PlaRead}
 use Rattle.pla.specs.Table.{flagOn, flagFree, flagMarks, marksOf, storedTable}
-use Rattle.pla.specs.Answer.{endTests, textTests, tableFound, acceptedPla, refusedPla, plaAnswer, plaAfter}
+use Rattle.pla.specs.Answer.{endTests, textTests, tableFound, plaTests, acceptedPla, refusedPla, plaAnswer, plaAfter}
 use Rattle.pla.proofs.Marking.{marks-ext, marks-few, table-length}
 
 -- ---- the flags give the marks of the rows
@@ -153,3 +154,20 @@ pla-length text output room = go (ℕ-discrete (firstFault (textTests output (re
         let fits = ltb-false (length room) (length (tableFound (readText output text))) e in
         let k = ap (λ (r : PlaRead). r .length) (pla-accepted text output room z fits .0) in
         omega (arith, k, fits)
+
+-- ---- the refusal number is exact
+
+pla-numbered : (output : ℕ) (f : Found) (room : List ℕ) → Numbered (plaTests output f room)
+pla-numbered output f room t k =
+    elim (append-mem (textTests output f) (roomTest (tableFound f) room) t k) [
+      | inl m ↦ text-numbered output f t m
+      | inr (inl e) ↦ λ z. let n = ap (λ (x : Test). x .number) e in omega (arith, n, z)
+      | inr (inr m) ↦ absurd m
+    ]
+
+-- A number is given exactly when its test applies and none before it does, and 0 exactly when none applies.
+pub pla-exact : (text : List ℕ) (output : ℕ) (room : List ℕ) → Exact (plaTests output (readText output text) room) (plaAnswer text output room .refusal)
+unfolding plaAnswer
+pla-exact text output room =
+    let f = readText output text in
+    decide-exact (λ (r : PlaRead). r .refusal) (plaTests output f room) (acceptedPla f) (refusedPla f) (pla-numbered output f room) refl (λ k. refl)

@@ -10,7 +10,7 @@ use Rattle.table.specs.Table.{badCount}
 use Rattle.stored.specs.Encoding.{encodeMarks, encodeTable}
 use Rattle.pla_text.specs.Text.{until, split, nonEmpty, symbolsOf, sameBytes}
 use Rattle.pla_text.specs.Numbers.{withDigit, numberFrom}
-use Rattle.pla_text.specs.Statements.{typeOf, endOf, directiveOf, statementOf}
+use Rattle.pla_text.specs.Statements.{typeOf, endOf, operandOf, directiveOf, statementOf}
 use Rattle.pla.specs.declared.PlaRead.{PlaRead}
 use Rattle.pla_cubes.specs.Cubes.{isCube, covers, says}
 use Rattle.pla_cubes.specs.Meaning.{freeBy, contradicts}
@@ -110,7 +110,7 @@ pub record Examples : Type 0 where
   pub output-0 : plaAnswer (46 ∷ 105 ∷ 32 ∷ 49 ∷ 10 ∷ 46 ∷ 111 ∷ 32 ∷ 49 ∷ 10 ∷ 49 ∷ 32 ∷ 49 ∷ 10 ∷ []) 0 room ≡ refused 40 0
 
 pub examples : Examples
-unfolding bit all firstFault badCount encodeMarks encodeTable until split nonEmpty symbolsOf sameBytes withDigit numberFrom typeOf endOf directiveOf statementOf isCube covers says freeBy contradicts markOf marksBelow storedTable lineFault headAfter readContent readFrom readText textTests plaAnswer plaAfter
+unfolding bit all firstFault badCount encodeMarks encodeTable until split nonEmpty symbolsOf sameBytes withDigit numberFrom typeOf endOf operandOf directiveOf statementOf isCube covers says freeBy contradicts markOf marksBelow storedTable lineFault headAfter readContent readFrom readText textTests plaAnswer plaAfter
 examples =
     record {
       five = refl;

@@ -113,6 +113,7 @@ lineFault output head rows symbols statement = firstFault (forCube statement (cu
 
 -- ---- what is known after a line
 
+-- The head after a statement that isn't refused.
 unfoldable pub headAfter : Head → Statement → Head
 headAfter head Empty = head
 headAfter head Wrong = head

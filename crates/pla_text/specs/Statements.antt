@@ -59,17 +59,20 @@ typeOf word =
 unfoldable pub endOf : ℕ → Statement
 endOf count = cond (eqb count 0) End Wrong
 
+-- A directive with one word after it.
+unfoldable pub operandOf : List ℕ → List ℕ → Statement
+operandOf name word =
+    cond (sameBytes name inputsName) (Inputs (numberOf word))
+    (cond (sameBytes name outputsName) (Outputs (numberOf word))
+    (cond (sameBytes name productsName) (Products (numberOf word))
+    (cond (sameBytes name typeName) (Meaning (typeOf word)) Wrong)))
+
 -- A directive by its name, the number of words that follow it, and the first of these.
 unfoldable pub directiveOf : List ℕ → ℕ → List ℕ → Statement
 directiveOf name count word =
     cond (sameBytes name inputNamesName || sameBytes name outputNamesName) Names
     (cond (sameBytes name endName || sameBytes name longEndName) (endOf count)
-    (cond (eqb count 1)
-    (cond (sameBytes name inputsName) (Inputs (numberOf word))
-    (cond (sameBytes name outputsName) (Outputs (numberOf word))
-    (cond (sameBytes name productsName) (Products (numberOf word))
-    (cond (sameBytes name typeName) (Meaning (typeOf word)) Wrong))))
-    Wrong))
+    (cond (eqb count 1) (operandOf name word) Wrong))
 
 -- A line without words is empty; one whose first word begins with a full stop is a directive; any other is a cube.
 unfoldable pub statementOf : List (List ℕ) → Statement

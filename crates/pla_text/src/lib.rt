@@ -5,7 +5,7 @@ ghost use Prim.Native.Nat.{_+_, _≤_, _<_};
 ghost use lib.ListN.{length, getD, drop};
 ghost use Rattle.pla_text.specs.Text.{stops, until, sameBytes, symbolsOf, wordsOf};
 ghost use Rattle.pla_text.specs.Numbers.{withDigit, numberOf};
-ghost use Rattle.pla_text.specs.Statements.{typeOf, endOf, directiveOf, few, statementOf};
+ghost use Rattle.pla_text.specs.Statements.{typeOf, endOf, operandOf, directiveOf, few, statementOf};
 
 // Where a walk over bytes stops.
 pub enum Stop {
@@ -150,6 +150,25 @@ fn end(count: usize) -> Statement
     }
 }
 
+// A directive with one word after it.
+fn operand(name: &[u8], word: &[u8]) -> Statement
+    ensures { λ r. ⌜ r ≡ operandOf (now (name .entry)) (now (word .entry)) ⌝ }
+{
+    if same(name, b".i") {
+        return Statement::Inputs(number(word));
+    }
+    if same(name, b".o") {
+        return Statement::Outputs(number(word));
+    }
+    if same(name, b".p") {
+        return Statement::Products(number(word));
+    }
+    if same(name, b".type") {
+        return Statement::Meaning(type_of(word));
+    }
+    Statement::Wrong
+}
+
 // A directive by its name, the number of words that follow it, and the first of these.
 fn directive(name: &[u8], count: usize, word: &[u8]) -> Statement
     ensures { λ r. ⌜ r ≡ directiveOf (now (name .entry)) count (now (word .entry)) ⌝ }
@@ -169,19 +188,7 @@ fn directive(name: &[u8], count: usize, word: &[u8]) -> Statement
     if count != 1 {
         return Statement::Wrong;
     }
-    if same(name, b".i") {
-        return Statement::Inputs(number(word));
-    }
-    if same(name, b".o") {
-        return Statement::Outputs(number(word));
-    }
-    if same(name, b".p") {
-        return Statement::Products(number(word));
-    }
-    if same(name, b".type") {
-        return Statement::Meaning(type_of(word));
-    }
-    Statement::Wrong
+    operand(name, word)
 }
 
 // How many words there are from a place on: none, one, or more, which count as two.

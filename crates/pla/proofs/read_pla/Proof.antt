@@ -29,7 +29,8 @@ returns-2 c =
     let args = c .before .before .before .before .before .before .before .before .before .args in
     let read-lines = c .before .before .before .before .before .before .read-lines in
     let text-fault = c .before .before .text-fault in
-    end-refused (args .text .now) (args .output) (read-lines .result) (read-lines .ensures) (args .room .now) (text-fault .result) (c .before .before .before .before .if1 .left) (text-fault .ensures) (c .before .if2 .taken) (c .refused2 .ensures)
+    end-refused (args .text .now) (args .output) (read-lines .result) (read-lines .ensures) (args .room .now) (text-fault .result) (c .before .before .before .before .if1 .left)
+    (text-fault .ensures) (c .before .if2 .taken) (c .refused2 .ensures)
 
 count-marks-requires : tie.Need-count-marks-requires
 count-marks-requires c κs =
@@ -64,7 +65,8 @@ returns-3 c =
     let read-lines = c .before .before .before .before .before .before .before .before .before .read-lines in
     let if1 = c .before .before .before .before .before .before .before .if1 in
     let text-fault = c .before .before .before .before .before .text-fault in
-    room-refused (args .text .now) (args .output) (read-lines .result) (read-lines .ensures) (args .room .now) (if1 .left) (sym (c .before .before .before .before .if2 .left) ∙ text-fault .ensures) (omega (arith, c .before .before .count-marks .ensures, c .before .if3 .taken)) (c .refused3 .ensures)
+    room-refused (args .text .now) (args .output) (read-lines .result) (read-lines .ensures) (args .room .now) (if1 .left)
+    (sym (c .before .before .before .before .if2 .left) ∙ text-fault .ensures) (omega (arith, c .before .before .count-marks .ensures, c .before .if3 .taken)) (c .refused3 .ensures)
 
 write-table-requires : tie.Need-write-table-requires
 write-table-requires c κs =
@@ -84,7 +86,8 @@ returns-4 c =
     let if2 = c .before .before .before .before .before .before .before .if2 in
     let text-fault = c .before .before .before .before .before .before .before .before .text-fault in
     let count-marks = c .before .before .before .before .before .count-marks in
-    text-accepted (args .text .now) (args .output) (read-lines .result) (read-lines .ensures) (args .room .now) (write-table .last .1 .1 .1 .1 .0) _ (if1 .left) (sym (if2 .left) ∙ text-fault .ensures) (omega (arith, count-marks .ensures)) (omega (arith, c .before .before .before .before .if3 .left)) (write-table .ensures)
+    text-accepted (args .text .now) (args .output) (read-lines .result) (read-lines .ensures) (args .room .now) (write-table .last .1 .1 .1 .1 .0) _ (if1 .left)
+    (sym (if2 .left) ∙ text-fault .ensures) (omega (arith, count-marks .ensures)) (omega (arith, c .before .before .before .before .if3 .left)) (write-table .ensures)
 
 pub read-pla-spec : {M : Type 1} → statement M
 read-pla-spec =

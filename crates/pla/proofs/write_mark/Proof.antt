@@ -18,7 +18,8 @@ use Rattle.pla.proofs.write_mark.Tie as tie
 write-record-requires : tie.Need-write-record-requires
 write-record-requires c κs =
     let args = c .before .before .before .args in
-    let e : markOf (args .on) (args .free) (args .point) ≡ mark true (args .point) ∷ [] = rw (c .before .if1 .taken) (mark-on (args .free) (args .point)) in omega (arith, (c .before .before .before .pre), ap length e)
+    let e : markOf (args .on) (args .free) (args .point) ≡ mark true (args .point) ∷ [] = rw (c .before .if1 .taken) (mark-on (args .free) (args .point)) in
+    omega (arith, (c .before .before .before .pre), ap length e)
 
 add-result : tie.Need-add-result
 add-result c = search needs
@@ -37,7 +38,8 @@ returns c =
 write-record-requires-2 : tie.Need-write-record-requires-2
 write-record-requires-2 c κs =
     let args = c .before .before .before .before .args in
-    let e : markOf (args .on) (args .free) (args .point) ≡ mark false (args .point) ∷ [] = rw (c .before .before .if1 .left, c .before .if2 .taken) (mark-free (args .point)) in omega (arith, (c .before .before .before .before .pre), ap length e)
+    let e : markOf (args .on) (args .free) (args .point) ≡ mark false (args .point) ∷ [] = rw (c .before .before .if1 .left, c .before .if2 .taken) (mark-free (args .point)) in
+    omega (arith, (c .before .before .before .before .pre), ap length e)
 
 add-result-2 : tie.Need-add-result-2
 add-result-2 c = search needs
@@ -59,7 +61,8 @@ returns-3 c =
     let args = c .before .before .before .args in
     let e : markOf (args .on) (args .free) (args .point) ≡ [] = rw (c .before .if1 .left, c .if2 .left) (mark-none (args .point)) in (
       omega (arith, ap length e),
-      λ done lent q l h. let z : done ++ encodeMarks (markOf (args .on) (args .free) (args .point)) ≡ done = rw (e, no-records) (append-nil done) in q ∙ ap (λ (k : List ℕ). front k lent) (sym z),
+      λ done lent q l h. let z : done ++ encodeMarks (markOf (args .on) (args .free) (args .point)) ≡ done = rw (e, no-records) (append-nil done) in q ∙ ap
+          (λ (k : List ℕ). front k lent) (sym z),
     )
 
 pub write-mark-spec : {M : Type 1} → statement M

@@ -27,8 +27,14 @@ loop-holds : tie.Need-loop-holds Inv-loop μ-loop
 loop-holds c =
     let args = c .before .before .args in
     let point-count = c .point-count in
-    let none = ap length (marks-start (flagOn (args .t3)) (flagFree (args .kind) (args .t3))) in
-    (omega arith, point-count .ensures, rw (point-count .ensures) (pow-mono (c .before .before .pre .0)), omega (arith, none), refl, writing-start (flagOn (args .t3)) (flagFree (args .kind) (args .t3)) (args .room .now))
+    let none = ap length (marks-start (flagOn (args .t3)) (flagFree (args .kind) (args .t3))) in (
+      omega arith,
+      point-count .ensures,
+      rw (point-count .ensures) (pow-mono (c .before .before .pre .0)),
+      omega (arith, none),
+      refl,
+      writing-start (flagOn (args .t3)) (flagFree (args .kind) (args .t3)) (args .room .now),
+    )
 
 flag-place-requires : tie.Need-flag-place-requires Inv-loop μ-loop
 flag-place-requires c κs = search needs
@@ -52,7 +58,8 @@ write-mark-requires c κs =
     let is-free = c .is-free in
     let loop = c .before .before .before .before .before .before .before .loop in
     let pre = c .before .before .before .before .before .before .before .before .before .before .pre in
-    let m : markOf (getD (args .t3 .one) (flag-place .result) false) (is-free .result) (loop .p) ≡ markOf (flagOn (args .t3) (loop .p)) (flagFree (args .kind) (args .t3) (loop .p)) (loop .p) = rw (is-free .ensures, flag-place .ensures) in
+    let m : markOf (getD (args .t3 .one) (flag-place .result) false) (is-free .result) (loop .p) ≡ markOf (flagOn (args .t3) (loop .p)) (flagFree (args .kind) (args .t3) (loop .p))
+    (loop .p) = rw (is-free .ensures, flag-place .ensures) in
     let size : loop .p < 2 ^ args .n = omega (arith, loop .inv .1) in
     let fits = mark-fits (flagOn (args .t3)) (flagFree (args .kind) (args .t3)) (loop .p) (2 ^ args .n) size in
     omega (arith, pre .1, loop .inv .3, loop .inv .4, fits, ap length m)
@@ -71,7 +78,8 @@ loop-again c =
     let loop = c .before .before .before .before .before .before .before .before .before .before .loop in
     let write-mark = c .before .before .write-mark in
     let pre = c .before .before .before .before .before .before .before .before .before .before .before .before .before .pre in
-    let m : markOf (getD (args .t3 .one) (flag-place .result) false) (is-free .result) (loop .p) ≡ markOf (flagOn (args .t3) (loop .p)) (flagFree (args .kind) (args .t3) (loop .p)) (loop .p) = rw (is-free .ensures, flag-place .ensures) in
+    let m : markOf (getD (args .t3 .one) (flag-place .result) false) (is-free .result) (loop .p) ≡ markOf (flagOn (args .t3) (loop .p)) (flagFree (args .kind) (args .t3) (loop .p))
+    (loop .p) = rw (is-free .ensures, flag-place .ensures) in
     let size : loop .p < 2 ^ args .n = omega (arith, loop .inv .1) in
     let fits = mark-fits (flagOn (args .t3)) (flagFree (args .kind) (args .t3)) (loop .p) (2 ^ args .n) size in
     let keeps : length (write-mark .last .0) ≡ length (loop .room) = search needs in
@@ -81,7 +89,8 @@ loop-again c =
       loop .inv .2,
       omega (arith, a, loop .inv .3, ap length m, count-next (flagOn (args .t3)) (flagFree (args .kind) (args .t3)) (loop .p)),
       keeps ∙ loop .inv .4,
-      writing-next (flagOn (args .t3)) (flagFree (args .kind) (args .t3)) (loop .p) (loop .at) _ (args .room .now) (loop .room) _ (loop .inv .5) m (loop .inv .3) (omega (arith, pre .1, loop .inv .3, fits, ap length m)) (write-mark .ensures .1),
+      writing-next (flagOn (args .t3)) (flagFree (args .kind) (args .t3)) (loop .p) (loop .at) _ (args .room .now) (loop .room) _ (loop .inv .5) m (loop .inv .3)
+          (omega (arith, pre .1, loop .inv .3, fits, ap length m)) (write-mark .ensures .1),
     )
 
 same-length : tie.Need-same-length Inv-loop μ-loop

@@ -67,9 +67,12 @@ returns c =
     let first : set (set lent 0 variablesKind) 1 (args .n) ≡ front (variablesKind ∷ args .n ∷ []) lent = push-two lent variablesKind (args .n) (omega (arith, pre .1 .1)) in
     let same : length (set (set lent 0 variablesKind) 1 (args .n)) ≡ length lent = simp length-set in
     let w = write-marks .ensures .1 (variablesKind ∷ args .n ∷ []) lent first refl same in
-    let long : length ((variablesKind ∷ args .n ∷ []) ++ encodeMarks ms) ≡ write-marks .result = omega (arith, write-marks .ensures .0, length-append (variablesKind ∷ args .n ∷ []) (encodeMarks ms), encode-length ms) in
-    let pushed = push-three ((variablesKind ∷ args .n ∷ []) ++ encodeMarks ms) lent (write-marks .result) endKind (lowByte (args .count)) (highByte (args .count)) long (omega (arith, write-marks .ensures .0, pre .1 .0, pre .1 .1)) in
-    c .before .before .write-record .ensures ∙ ap (λ (l : List ℕ). set (set (set l (write-marks .result) endKind) (write-marks .result + 1) (lowByte (args .count))) (write-marks .result + 2) (highByte (args .count))) w ∙ pushed
+    let long : length ((variablesKind ∷ args .n ∷ []) ++ encodeMarks ms) ≡ write-marks
+    .result = omega (arith, write-marks .ensures .0, length-append (variablesKind ∷ args .n ∷ []) (encodeMarks ms), encode-length ms) in
+    let pushed = push-three ((variablesKind ∷ args .n ∷ []) ++ encodeMarks ms) lent (write-marks .result) endKind (lowByte (args .count)) (highByte (args .count)) long
+    (omega (arith, write-marks .ensures .0, pre .1 .0, pre .1 .1)) in
+    c .before .before .write-record .ensures ∙ ap (λ (l : List ℕ). set (set (set l (write-marks .result) endKind) (write-marks .result + 1) (lowByte (args .count)))
+    (write-marks .result + 2) (highByte (args .count))) w ∙ pushed
     ∙ ap (λ (k : ℕ). front (((variablesKind ∷ args .n ∷ []) ++ encodeMarks ms) ++ (endKind ∷ lowByte k ∷ highByte k ∷ [])) lent) (pre .1 .0) ∙ table-is (args .n) ms lent
 
 pub write-table-spec : {M : Type 1} → statement M

@@ -17,7 +17,8 @@ returns : tie.Need-returns
 returns c =
     let args = c .before .before .before .before .args in
     let shape-fault = c .before .before .shape-fault in
-    λ rows f. cube-refused (args .number) (args .head) (args .output) (symbolsOf (args .content .now)) rows f (shape-fault .result) (shape-fault .ensures) (c .before .if1 .taken) (c .refused .ensures)
+    λ rows f. cube-refused (args .number) (args .head) (args .output) (symbolsOf (args .content .now)) rows f (shape-fault .result) (shape-fault .ensures) (c .before .if1 .taken)
+    (c .refused .ensures)
 
 inputs-of-requires : tie.Need-inputs-of-requires
 inputs-of-requires c κs =
@@ -51,7 +52,8 @@ returns-2 c =
     let clashes = c .before .before .clashes in
     λ rows f.
     let g = rw (inputs-of .ensures, output-symbol .ensures) at (flags-with .ensures rows f) in
-    cube-clashes (args .number) (args .head) (args .output) (symbolsOf (args .content .now)) rows f (sym (shape-fault .ensures) ∙ if1 .left) (flags-with .result) (pre .inputs) g (clashes .result) (clashes .ensures) (c .before .if2 .taken) (c .refused2 .ensures)
+    cube-clashes (args .number) (args .head) (args .output) (symbolsOf (args .content .now)) rows f (sym (shape-fault .ensures) ∙ if1 .left) (flags-with .result) (pre .inputs) g
+    (clashes .result) (clashes .ensures) (c .before .if2 .taken) (c .refused2 .ensures)
 
 head-after-requires : tie.Need-head-after-requires
 head-after-requires c κs = search needs
@@ -68,7 +70,8 @@ returns-3 c =
     let clashes = c .before .before .clashes in
     λ rows f.
     let g = rw (inputs-of .ensures, output-symbol .ensures) at (flags-with .ensures rows f) in
-    cube-accepted (args .number) (args .head) (args .output) (symbolsOf (args .content .now)) rows f (sym (shape-fault .ensures) ∙ if1 .left) (flags-with .result) (pre .inputs) g (clashes .result) (clashes .ensures) (c .before .if2 .left) (c .head-after .ensures)
+    cube-accepted (args .number) (args .head) (args .output) (symbolsOf (args .content .now)) rows f (sym (shape-fault .ensures) ∙ if1 .left) (flags-with .result) (pre .inputs) g
+    (clashes .result) (clashes .ensures) (c .before .if2 .left) (c .head-after .ensures)
 
 pub read-cube-spec : {M : Type 1} → statement M
 read-cube-spec =

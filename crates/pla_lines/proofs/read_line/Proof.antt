@@ -52,7 +52,8 @@ returns c =
     λ rows f.
     let cut = content-cut (args .line .now) (run-end .result) (run-end .ensures) .1 in
     let s : statementOf (wordsOf (contentOf (args .line .now))) ≡ Cube = rw (← cut) (sym (c .before .before .before .line-statement .ensures) ∙ c .before .enum-told .given .1) in
-    let told = subst (λ (content : List ℕ). Agrees (read-cube .result) (readStatement (args .output) (args .number) (args .head) rows (symbolsOf content) Cube)) cut (read-cube .ensures rows f) in
+    let told = subst (λ (content : List ℕ). Agrees (read-cube .result) (readStatement (args .output) (args .number) (args .head) rows (symbolsOf content) Cube)) cut
+    (read-cube .ensures rows f) in
     rw s told
 
 returns-2 : tie.Need-returns-2

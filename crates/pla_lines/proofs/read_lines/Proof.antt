@@ -51,7 +51,8 @@ returns c =
     let loop = c .before .before .before .before .before .loop in
     let run-end = c .before .before .before .before .run-end in
     let read-line = c .before .before .read-line in
-    stopped (args .text .now) (args .output) (loop .from) (loop .inv .0) (run-end .result) (run-end .ensures) (loop .number) (loop .head) (loop .inv .3 .0) (read-line .result) (read-line .ensures (loop .inv .3 .0) (loop .inv .3 .1)) (loop .inv .3 .2) (c .if1 .taken)
+    stopped (args .text .now) (args .output) (loop .from) (loop .inv .0) (run-end .result) (run-end .ensures) (loop .number) (loop .head) (loop .inv .3 .0) (read-line .result)
+    (read-line .ensures (loop .inv .3 .0) (loop .inv .3 .1)) (loop .inv .3 .2) (c .if1 .taken)
 
 returns-2 : tie.Need-returns-2 Inv-loop μ-loop
 returns-2 c =
@@ -59,7 +60,8 @@ returns-2 c =
     let loop = c .before .before .before .before .before .before .loop in
     let run-end = c .before .before .before .before .before .run-end in
     let read-line = c .before .before .before .read-line in
-    finished (args .text .now) (args .output) (loop .from) (loop .inv .0) (run-end .result) (run-end .ensures) (loop .number) (loop .head) (loop .inv .3 .0) (read-line .result) (read-line .ensures (loop .inv .3 .0) (loop .inv .3 .1)) (loop .inv .3 .2) (c .before .if1 .left) (c .if2 .taken)
+    finished (args .text .now) (args .output) (loop .from) (loop .inv .0) (run-end .result) (run-end .ensures) (loop .number) (loop .head) (loop .inv .3 .0) (read-line .result)
+    (read-line .ensures (loop .inv .3 .0) (loop .inv .3 .1)) (loop .inv .3 .2) (c .before .if1 .left) (c .if2 .taken)
 
 add-from : tie.Need-add-from Inv-loop μ-loop
 add-from c =
@@ -78,7 +80,12 @@ loop-less c =
     let args = c .before .before .before .before .before .before .before .before .before .before .args in
     let loop = c .before .before .before .before .before .before .before .before .loop in
     let run-end = c .before .before .before .before .before .before .before .run-end in
-    omega (arith, line-inside (args .text .now) (loop .from) (loop .inv .0) (run-end .result) (run-end .ensures) .0, line-inside (args .text .now) (loop .from) (loop .inv .0) (run-end .result) (run-end .ensures) .1, c .before .before .if2 .left)
+    omega (
+      arith,
+      line-inside (args .text .now) (loop .from) (loop .inv .0) (run-end .result) (run-end .ensures) .0,
+      line-inside (args .text .now) (loop .from) (loop .inv .0) (run-end .result) (run-end .ensures) .1,
+      c .before .before .if2 .left,
+    )
 
 loop-again : tie.Need-loop-again Inv-loop μ-loop
 loop-again c =
@@ -88,7 +95,9 @@ loop-again c =
     let read-line = c .before .before .before .before .before .read-line in
     let if2 = c .before .before .if2 in
     let inside = line-inside (args .text .now) (loop .from) (loop .inv .0) (run-end .result) (run-end .ensures) in
-    let k = going (args .text .now) (args .output) (loop .from) (loop .inv .0) (run-end .result) (run-end .ensures) (loop .number) (loop .head) (loop .inv .3 .0) (read-line .result) (read-line .ensures (loop .inv .3 .0) (loop .inv .3 .1)) (loop .inv .3 .2) (loop .inv .2) (c .before .before .before .if1 .left) (omega (arith, inside .1, if2 .left)) in
+    let k = going (args .text .now) (args .output) (loop .from) (loop .inv .0) (run-end .result) (run-end .ensures) (loop .number) (loop .head) (loop .inv .3 .0)
+    (read-line .result) (read-line .ensures (loop .inv .3 .0) (loop .inv .3 .1)) (loop .inv .3 .2) (loop .inv .2) (c .before .before .before .if1 .left)
+    (omega (arith, inside .1, if2 .left)) in
     (omega (arith, inside .1, if2 .left), omega (arith, inside .0, loop .inv .1), k .0, k .1)
 
 pub read-lines-spec : {M : Type 1} → statement M

@@ -30,8 +30,16 @@ unfolding statementOf
 returns-2 c =
     let run-end = c .before .before .before .run-end in
     let args = c .before .before .before .before .before .args in
-    let h : run-end .result < length (args .content .now) = omega (arith, start-inside (args .content .now) 0 (omega arith) (run-end .result) (run-end .ensures), c .before .before .if1 .left) in
-    rw (next-word (args .content .now) 0 (omega arith) (run-end .result) (run-end .ensures) _ refl h, word-begins (args .content .now) 0 (omega arith) (run-end .result) (run-end .ensures) _ refl h, ne-eqb _ _ (c .if2 .taken))
+    let h : run-end .result < length (args .content .now) = omega (
+      arith,
+      start-inside (args .content .now) 0 (omega arith) (run-end .result) (run-end .ensures),
+      c .before .before .if1 .left,
+    ) in
+    rw (
+      next-word (args .content .now) 0 (omega arith) (run-end .result) (run-end .ensures) _ refl h,
+      word-begins (args .content .now) 0 (omega arith) (run-end .result) (run-end .ensures) _ refl h,
+      ne-eqb _ _ (c .if2 .taken),
+    )
 
 run-end-requires-2 : tie.Need-run-end-requires-2
 run-end-requires-2 c κs =
@@ -52,7 +60,8 @@ run-end-requires-4 c κs =
     let run-end2 = c .before .run-end2 in
     let run-end = c .before .before .before .before .before .run-end in
     let run-end3 = c .run-end3 in
-    start-inside (args .content .now) (run-end2 .result) (end-inside (args .content .now) 0 (omega arith) (run-end .result) (run-end .ensures) (run-end2 .result) (run-end2 .ensures) .1) (run-end3 .result) (run-end3 .ensures)
+    start-inside (args .content .now) (run-end2 .result) (end-inside (args .content .now) 0 (omega arith) (run-end .result) (run-end .ensures) (run-end2 .result)
+    (run-end2 .ensures) .1) (run-end3 .result) (run-end3 .ensures)
 
 sub-directive : tie.Need-sub-directive
 sub-directive c = search needs
@@ -87,7 +96,8 @@ part-directive-end-2 c =
     let run-end = c .before .before .before .before .before .before .before .before .run-end in
     let run-end3 = c .before .before .before .run-end3 in
     let run-end4 = c .before .before .run-end4 in
-    end-inside (args .content .now) (run-end2 .result) (end-inside (args .content .now) 0 (omega arith) (run-end .result) (run-end .ensures) (run-end2 .result) (run-end2 .ensures) .1) (run-end3 .result) (run-end3 .ensures) (run-end4 .result) (run-end4 .ensures) .1
+    end-inside (args .content .now) (run-end2 .result) (end-inside (args .content .now) 0 (omega arith) (run-end .result) (run-end .ensures) (run-end2 .result) (run-end2 .ensures)
+    .1) (run-end3 .result) (run-end3 .ensures) (run-end4 .result) (run-end4 .ensures) .1
 
 directive-requires : tie.Need-directive-requires
 directive-requires c κs = search needs
@@ -104,10 +114,16 @@ returns-3 c =
     let if2 = c .before .before .before .before .before .before .before .if2 in
     let l = args .content .now in
     let h : run-end .result < length l = omega (arith, start-inside (args .content .now) 0 (omega arith) (run-end .result) (run-end .ensures), if1 .left) in
-    let operand = word-or-none (args .content .now) (run-end2 .result) (end-inside (args .content .now) 0 (omega arith) (run-end .result) (run-end .ensures) (run-end2 .result) (run-end2 .ensures) .1) (run-end3 .result) (run-end3 .ensures) (run-end4 .result) (run-end4 .ensures) in
+    let operand = word-or-none (args .content .now) (run-end2 .result) (end-inside (args .content .now) 0 (omega arith) (run-end .result) (run-end .ensures) (run-end2 .result)
+    (run-end2 .ensures) .1) (run-end3 .result) (run-end3 .ensures) (run-end4 .result) (run-end4 .ensures) in
     let name = take (run-end2 .result - run-end .result) (drop (run-end .result) l) in
     let word = take (run-end4 .result - run-end3 .result) (drop (run-end3 .result) l) in
-    rw (next-word (args .content .now) 0 (omega arith) (run-end .result) (run-end .ensures) (run-end2 .result) (run-end2 .ensures) h, word-begins (args .content .now) 0 (omega arith) (run-end .result) (run-end .ensures) (run-end2 .result) (run-end2 .ensures) h, eq-eqb _ _ (if2 .left), operand)
+    rw (
+      next-word (args .content .now) 0 (omega arith) (run-end .result) (run-end .ensures) (run-end2 .result) (run-end2 .ensures) h,
+      word-begins (args .content .now) 0 (omega arith) (run-end .result) (run-end .ensures) (run-end2 .result) (run-end2 .ensures) h,
+      eq-eqb _ _ (if2 .left),
+      operand,
+    )
     (c .directive .ensures ∙ ap (λ (k : ℕ). directiveOf name k word) (c .before .before .words-from .ensures) ∙ directive-few name _ word)
 
 pub line-statement-spec : {M : Type 1} → statement M
