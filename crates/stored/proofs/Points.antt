@@ -51,7 +51,7 @@ points-apart (m ∷ ms) r p k l = go (m .isOn) (points-apart ms (r .1) p) k l
 
 -- ---- mark by mark
 
-points-append : (isOn : Bool) (ls ms : List Mark) → pointsOf isOn (ls ++ ms) ≡ pointsOf isOn ls ++ pointsOf isOn ms
+pub points-append : (isOn : Bool) (ls ms : List Mark) → pointsOf isOn (ls ++ ms) ≡ pointsOf isOn ls ++ pointsOf isOn ms
 unfolding pointsOf
 points-append isOn [] ms = refl
 points-append isOn (l ∷ ls) ms = go (Bool·beq isOn (l .isOn)) (points-append isOn ls ms)

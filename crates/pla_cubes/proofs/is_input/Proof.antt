@@ -1,0 +1,16 @@
+-- `pla_cubes::is_input` meets its contract: its tests are those of the definition. Assumes nothing.
+use borrow.Author.Tests.{eq-eqb, ne-eqb}
+use Rattle.pla_cubes.proofs.is_input.Statement.{statement}
+use Rattle.pla_cubes.proofs.is_input.Tie as tie
+
+returns : tie.Need-returns
+returns c = rw (eq-eqb _ _ (c .if1 .taken))
+
+returns-2 : tie.Need-returns-2
+returns-2 c = rw (ne-eqb _ _ (c .before .if1 .left), eq-eqb _ _ (c .if2 .taken))
+
+returns-3 : tie.Need-returns-3
+returns-3 c = rw (ne-eqb _ _ (c .before .if1 .left), ne-eqb _ _ (c .if2 .left))
+
+pub is-input-spec : {M : Type 1} → statement M
+is-input-spec = tie.close (tie.spec returns returns-2 returns-3)

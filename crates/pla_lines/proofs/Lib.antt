@@ -1,0 +1,3 @@
+-- Laws about the definitions in specs/; read in this order.
+pub mod Judging
+pub mod Going
