@@ -3,8 +3,8 @@
 //! Follows docs/DECISIONS.md, section "Truth tables in Berkeley PLA".
 
 use crate::pla_texts::{self as texts, Shape, KINDS};
-use crate::run::run;
 use crate::tally::Tally;
+use library::programs::run;
 use reference::generate::{self, Generator};
 use reference::pla::{self, Refused};
 use reference::table::{self, Table};

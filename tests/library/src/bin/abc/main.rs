@@ -1,29 +1,39 @@
-//! Berkeley ABC as a second judge of written forms: for each of some hundred
-//! tables it is asked whether the form that the library writes and the table,
-//! which it reads as a truth table, are the same function. A table with free
-//! points is compared on all others. Each table has a form altered on purpose
-//! too, and ABC must tell whether that one still is the table's. Follows document
-//! 01, section "The written form".
+//! Berkeley ABC as a second judge, of two things. For each of some hundred tables
+//! it is asked whether the form that the library writes and the table, which it
+//! reads as a truth table, are the same function; a table with free points is
+//! compared on all others. And for each of some hundred truth tables in Berkeley
+//! PLA, which it reads with its own reader, whether the program `pla_to_table`
+//! finds the same on points. Each has a second network, altered on purpose, and ABC
+//! must tell whether that one still is the same. Follows document 01, section "The
+//! written form", and docs/DECISIONS.md, section "Truth tables in Berkeley PLA".
 //!
 //! The command is `berkeley-abc`, of the Debian package of that name; it runs once
-//! for all tables. The last line is 'N passed, 0 failed', a count to each table.
-//! Tables and alterations stand in `cases`, what ABC reads in `networks`.
+//! for all. The last line is 'N passed, 0 failed', a count to each table and text.
+//! Tables with their forms stand in `forms`, texts in `texts`, and what ABC reads
+//! in `networks`.
 
-mod cases;
+mod forms;
 mod networks;
+mod texts;
 
-use cases::Case;
 use std::path::{Path, PathBuf};
 use std::process::{self, Command};
 use std::{env, fs};
 
 const COMMAND: &str = "berkeley-abc";
 
-/// How many of the tables judged otherwise are shown.
+/// How many of the cases judged otherwise are shown.
 const MOST_SHOWN: usize = 3;
 
 /// What stands before the number of a pair in the output, where ABC echoes it.
 const PAIR: &str = "pair ";
+
+/// A truth table, and two networks with whether they are the same function.
+struct Case {
+    what: String,
+    truth: String,
+    networks: [(String, bool); 2],
+}
 
 /// A folder for the networks, removed at the end.
 struct Folder(PathBuf);
@@ -46,18 +56,18 @@ fn write(folder: &Path, name: &str, text: &str) {
     fs::write(folder.join(name), text).expect("a network can be written");
 }
 
-/// Writes table, form and altered form of each case, and the script: pair 2k is
-/// the k-th table and its form, pair 2k + 1 the same table and its altered form.
+/// Writes the truth table and both networks of each case, and the script: pairs
+/// 2k and 2k + 1 are those of the k-th case.
 fn write_all(folder: &Path, cases: &[Case]) {
     let mut script = String::new();
     for (place, case) in cases.iter().enumerate() {
-        let table = format!("{place}.pla");
-        write(folder, &table, &networks::table(&case.table));
-        for (turn, form) in [&case.form, &case.altered].into_iter().enumerate() {
+        let truth = format!("{place}.pla");
+        write(folder, &truth, &case.truth);
+        for (turn, (network, _)) in case.networks.iter().enumerate() {
             let number = 2 * place + turn;
-            let network = format!("{number}.blif");
-            write(folder, &network, &networks::form(form, &case.table.2));
-            script += &format!("echo {PAIR}{number}\ncec {table} {network}\n");
+            let name = format!("{number}.blif");
+            write(folder, &name, network);
+            script += &format!("echo {PAIR}{number}\ncec {truth} {name}\n");
         }
     }
     write(folder, "script", &script);
@@ -105,28 +115,26 @@ fn judge(folder: &Path, pairs: usize) -> Vec<Option<bool>> {
 }
 
 fn main() {
-    let cases = cases::all();
+    let (forms, texts) = (forms::all(), texts::all());
+    println!(
+        "{} tables with their forms, {} texts",
+        forms.len(),
+        texts.len()
+    );
+    let cases: Vec<Case> = forms.into_iter().chain(texts).collect();
     let folder = Folder::new();
     write_all(&folder.0, &cases);
     let said = judge(&folder.0, 2 * cases.len());
-    let mut failed = 0;
+    let (mut failed, mut different) = (0, 0);
     for (case, said) in cases.iter().zip(said.chunks(2)) {
-        if said == [Some(true), Some(case.altered_is_same)] {
-            continue;
-        }
-        failed += 1;
-        if failed <= MOST_SHOWN {
-            println!("{said:?} of {case:?}");
+        let expected = case.networks.each_ref().map(|network| Some(network.1));
+        different += expected.iter().filter(|&&same| same == Some(false)).count();
+        failed += usize::from(said != expected);
+        if said != expected && failed <= MOST_SHOWN {
+            println!("{said:?} and not {expected:?}: {}", case.what);
         }
     }
-    let with_free = cases.iter().filter(|case| !case.table.2.is_empty());
-    let different = cases.iter().filter(|case| !case.altered_is_same);
-    println!(
-        "{} tables, {} of them with free points; {} altered forms aren't the table's",
-        cases.len(),
-        with_free.count(),
-        different.count()
-    );
+    println!("{different} altered networks aren't the same function");
     println!("{} passed, {failed} failed", cases.len() - failed);
     drop(folder);
     process::exit(i32::from(failed > 0));

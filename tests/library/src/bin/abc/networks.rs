@@ -1,14 +1,21 @@
-//! Tables and forms as ABC reads them: a table in Berkeley PLA, point by point; a
-//! form as a network in BLIF of XORs, ANDs and one OR, product by product as it
-//! stands. Follows document 01, section "The written form".
+//! Tables, forms and lists of points as ABC reads them: a table in Berkeley PLA,
+//! point by point; a form as a network in BLIF of XORs, ANDs and one OR, product by
+//! product as it stands; lists of points as such a network, an output to each. Follows document 01, section "The written form".
 
 use reference::form::{Factor, Form};
 use reference::table::Table;
 
+/// So many names, a letter with an index from 1 on, with blanks between them.
+pub fn names(letter: &str, count: usize) -> String {
+    let names: Vec<String> = (1..=count)
+        .map(|index| format!("{letter}{index}"))
+        .collect();
+    names.join(" ")
+}
+
 /// The inputs, x1 first.
 fn inputs(n: usize) -> String {
-    let names: Vec<String> = (1..=n).map(|index| format!("x{index}")).collect();
-    names.join(" ")
+    names("x", n)
 }
 
 /// The values of the inputs at a point, x1 first.
@@ -92,4 +99,17 @@ pub fn form(form: &Form, free: &[u16]) -> String {
     }
     text += &points(n, "free", free);
     text + ".names form free f\n10 1\n.end\n"
+}
+
+/// A network with an output f1, f2 and so on for each list of points, that is 1 at
+/// these points alone.
+pub fn lists(n: usize, lists: &[Vec<u16>]) -> String {
+    let outputs = names("f", lists.len());
+    let nodes = lists.iter().enumerate();
+    let nodes = nodes.map(|(place, list)| points(n, &format!("f{}", place + 1), list));
+    let nodes: String = nodes.collect();
+    format!(
+        ".model lists\n.inputs {}\n.outputs {outputs}\n{nodes}.end\n",
+        inputs(n)
+    )
 }

@@ -1,5 +1,7 @@
 //! Running a built program: what it writes to standard output and to standard
-//! error.
+//! error. Programs are looked for in target/bin of the repository, where `rt
+//! check` and `rt ci` build them; the environment variable GLOSPRUMA_BIN_DIR names
+//! another folder.
 
 use std::env;
 use std::ffi::OsString;

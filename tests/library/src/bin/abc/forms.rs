@@ -4,6 +4,8 @@
 //! made free. Follows document 01, section "The written form"; every run has the
 //! same tables.
 
+use crate::networks;
+use crate::Case;
 use reference::form::{self, Factor, Form};
 use reference::generate::{self, Generator};
 use reference::table::Table;
@@ -14,16 +16,6 @@ const MOST_INPUTS: usize = 8;
 /// Tables of each number of inputs: complete ones and ones with free points.
 const COMPLETE: usize = 25;
 const WITH_FREE: usize = 20;
-
-/// A table, the form written for it, and an altered form.
-#[derive(Debug)]
-pub struct Case {
-    pub table: Table,
-    pub form: Form,
-    pub altered: Form,
-    /// Whether the altered form agrees with the table too.
-    pub altered_is_same: bool,
-}
 
 /// The form that the library writes, if it accepts the table.
 fn written((n, on, free): &Table) -> Option<Form> {
@@ -129,7 +121,22 @@ fn known() -> Vec<Table> {
     tables
 }
 
-/// All cases.
+/// A table with its form and an altered form, as ABC is given them.
+fn case(generator: &mut Generator, table: Table) -> Case {
+    let form = written(&table).expect("a table that has a form");
+    let altered = altered(generator, &form);
+    let still_agrees = agrees(&table, &altered);
+    Case {
+        what: format!("{table:?}, {form:?}, {altered:?}"),
+        truth: networks::table(&table),
+        networks: [
+            (networks::form(&form, &table.2), true),
+            (networks::form(&altered, &table.2), still_agrees),
+        ],
+    }
+}
+
+/// All tables.
 pub fn all() -> Vec<Case> {
     let mut generator = Generator::new(190);
     let mut tables = known();
@@ -137,16 +144,6 @@ pub fn all() -> Vec<Case> {
         tables.extend((0..COMPLETE).map(|_| closed(&mut generator, n)));
         tables.extend((0..WITH_FREE).map(|_| with_free(&mut generator, n)));
     }
-    let case = |table: Table| {
-        let form = written(&table).expect("a table that has a form");
-        let altered = altered(&mut generator, &form);
-        let altered_is_same = agrees(&table, &altered);
-        Case {
-            table,
-            form,
-            altered,
-            altered_is_same,
-        }
-    };
-    tables.into_iter().map(case).collect()
+    let each = tables.into_iter();
+    each.map(|table| case(&mut generator, table)).collect()
 }
