@@ -1,6 +1,9 @@
 //! The calls of the static library as the tests and the benchmark make them: by
 //! the declarations of the package in the folder `rust`, which return the
 //! refusal number and all other numbers as they come. Follows document 01,
-//! sections "What the library holds" and "Refusal numbers".
+//! sections "What the library holds" and "Refusal numbers". And the built programs
+//! (module `programs`).
+
+pub mod programs;
 
 pub use glospruma::raw::*;

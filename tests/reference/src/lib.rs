@@ -7,6 +7,7 @@ pub mod cover;
 pub mod form;
 pub mod generate;
 pub mod numbers;
+pub mod pla;
 pub mod primes;
 pub mod refusal;
 pub mod report;
