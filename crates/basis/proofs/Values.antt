@@ -5,7 +5,7 @@ use mathlib.Core.List.{List, [], _∷_, _++_, append-assoc}
 use Prim.Native.Nat.{ℕ, suc, _+_, _-_, _^_, _≤_, _<_}
 use native.Mathlib.Numerals.{add-one}
 use native.Mathlib.Omega.{arith}
-use lib.ListN.{length, take, drop, set, getD, replicate, length-append, length-replicate, drop-of-length-le}
+use lib.ListN.{length, take, drop, set, getD, replicate, length-append, drop-of-length-le}
 use lib.Seq.{take-append-seam, set-append-seam, drop-cons, getD-take}
 use Rattle.gf2.specs.Limits.{maxVariables}
 use Rattle.gf2.specs.Finite.{Mem}
@@ -27,9 +27,6 @@ padded-push m vs v h =
     let e : m - length vs ≡ suc (m - suc (length vs)) = omega arith in
     let l : length (vs ++ (v ∷ [])) ≡ suc (length vs) = omega (arith, length-append vs (v ∷ [])) in
     rw (l, e, append-assoc vs (v ∷ []) (replicate (m - suc (length vs)) 0)) (set-append-seam vs 0 (replicate (m - suc (length vs)) 0) v)
-
-pub padded-length : (m : ℕ) (vs : List ℕ) → length vs ≤ m → length (vs ++ replicate (m - length vs) 0) ≡ m
-padded-length m vs h = length-append vs (replicate (m - length vs) 0) ∙ omega (arith, length-replicate {A = ℕ} (m - length vs) 0)
 
 -- A list put into a short list is read back.
 pub listed-back : (vs : List ℕ) → listed (short vs) ≡ vs

@@ -9,19 +9,19 @@ use native.Mathlib.Omega.{arith}
 use lib.ListN.{length, length-append}
 use lib.Seq.{take-length}
 use Rattle.gf2.specs.Bits.{bit, halvings, lead}
-use Rattle.gf2.specs.Finite.{Mem, holds, Ordered, Rising, all, select}
+use Rattle.gf2.specs.Finite.{Mem, holds, Rising, all, select}
 use Rattle.gf2.specs.Basis.{clear, reduce}
 use Rattle.gf2.proofs.Logic.{clash, same, cond-cases, or-l, or-r, or-cases}
 use Rattle.gf2.proofs.Finite.{cons-all, append-mem, holds-mem}
 use Rattle.cubes.specs.Lists.{keep}
-use Rattle.cubes.specs.Cubes.{SameSet, Candidate, candidate, spans, pointsOf, IsCandidate}
-use Rattle.cubes.specs.Candidates.{Before, bases, candidatesOf, candidatesFrom, candidates, candidateCount}
+use Rattle.cubes.specs.Cubes.{Candidate, candidate, spans, pointsOf, IsCandidate}
+use Rattle.cubes.specs.Candidates.{bases, candidatesOf, candidatesFrom, candidates, candidateCount}
 use Rattle.cubes.specs.Primes.{Prime, everyPoint, somePoint, cannotGrow, isPrime}
 use Rattle.cubes.specs.Calls.{primesBehind}
-use Rattle.cubes.proofs.Lists.{mem-append, keep-mem, mem-keep, ordered-keep}
+use Rattle.cubes.proofs.Lists.{mem-append, keep-mem, mem-keep}
 use Rattle.cubes.proofs.Cubes.{points-are}
-use Rattle.cubes.proofs.Candidates.{candidate-is, candidate-only, candidates-ordered}
-use Rattle.cubes.proofs.Primes.{prime-is, prime-same}
+use Rattle.cubes.proofs.Candidates.{candidate-is}
+use Rattle.cubes.proofs.Primes.{prime-is}
 use Rattle.cover.specs.Choice.{primesOf, covered, FirstHolding, firstHolding, takenFor, takenThrough, chosen}
 use Rattle.cover.proofs.Primes.{points-coset, prime-at, prime-two}
 
@@ -43,22 +43,6 @@ primes-inside m on c i x e =
       | inl h ↦ holds-mem on x .0 h
       | inr h ↦ clash h refl
     ]
-
--- Every prime of the function is one of them, and they stand in the order of the candidates: they are what a listing has handed over at its end.
-pub primes-all : (m : ℕ) (on : List ℕ) (C : ℕ → Bool) → Prime m (holds on) (holds []) C → (c : Candidate) × Mem c (primesOf m on) × SameSet m C (pointsOf c)
-unfolding primesOf
-primes-all m on C p =
-    let o = candidate-only m C (p .cube) in
-    let c = o .which in (
-      c,
-      mem-keep (isPrime m (holds on) (holds [])) (candidates m) c (o .listed)
-          (prime-is m (holds on) (holds []) c (candidate-is m c .0 (o .listed)) .1 (prime-same (o .same) p)),
-      o .same,
-    )
-
-pub primes-ordered : (m : ℕ) (on : List ℕ) → Ordered Before (primesOf m on)
-unfolding primesOf
-primes-ordered m on = ordered-keep Before (isPrime m (holds on) (holds [])) (candidates m) (candidates-ordered m)
 
 pub primes-listed : (m : ℕ) (on : List ℕ) → primesOf m on ≡ primesBehind (record { variables = m; on = on; free = [] }) (candidateCount m)
 unfolding primesOf primesBehind

@@ -157,15 +157,6 @@ module _ (n : ℕ) (f : ℕ → Bool) (bs : List ℕ) (r : Reduced bs) (s : (x :
       (λ w l. h (w ⊕ 1) (xor-lt (length (equations n bs)) w 1 l (two-points p)) ∙ sym (h w l))) in
       omega arith
 
-  -- So some point of it is on, and some is off.
-  pub restriction-some : 0 < length (equations n bs) → 1 ≤ length (restriction n bs f)
-  unfolding holds
-  restriction-some p = go (restriction n bs f) (restriction-varies p false)
-    where
-      go : (ys : List ℕ) → (((y : ℕ) → y < 2 ^ length (equations n bs) → holds ys y ≡ false) → ⊥) → 1 ≤ length ys
-      go [] g = absurd (g (λ y l. refl))
-      go (y ∷ ys) g = omega arith
-
   pub restriction-fewer : 0 < length (equations n bs) → suc (length (restriction n bs f)) ≤ 2 ^ length (equations n bs)
   restriction-fewer p = go (all (holds (restriction n bs f)) (2 ^ length (equations n bs))) refl
     where

@@ -1,5 +1,4 @@
--- The definitions as a loop meets them: one point more gone through, one candidate more passed in the search, one prime more taken, one
--- equation more put in. Read next: Examples.
+-- The definitions as a loop meets them: one point more gone through, one prime more taken, one equation more put in. Read next: Examples.
 use mathlib.Core.Path.{_≡_, refl, ap, _∙_}
 use mathlib.Core.Bool.{Bool, true, false, cond, _||_}
 use mathlib.Core.List.{List, [], _∷_, _++_, append-nil}
@@ -8,7 +7,6 @@ use native.Mathlib.Nat.{le-of-suc-le-suc}
 use native.Mathlib.Omega.{arith}
 use lib.ListN.{length, getD, drop}
 use Rattle.gf2.specs.Bits.{_⊕_, bit}
-use Rattle.cubes.specs.Lists.{keep}
 use Rattle.cubes.specs.Cubes.{Candidate, pointsOf}
 use Rattle.cover.specs.Substitution.{substituteMask}
 use Rattle.cover.specs.Choice.{covered, firstHolding, takenFor, takenThrough}
@@ -40,25 +38,6 @@ or-false false = refl
 pub covered-next : (taken : List Candidate) (c : Candidate) (y : ℕ) → covered (taken ++ (c ∷ [])) y ≡ covered taken y || pointsOf c y
 unfolding covered
 covered-next taken c y = covered-append taken (c ∷ []) y ∙ ap (λ t. covered taken y || t) (or-false (pointsOf c y))
-
--- ---- the search among candidates that pass a test
-
-pub first-passes : (t : Candidate → Bool) (c : Candidate) (cs : List Candidate) (x : ℕ) → t c ≡ true → pointsOf c x ≡ true → firstHolding (keep t (c ∷ cs)) x ≡ c ∷ []
-unfolding keep firstHolding
-first-passes t c cs x p e = rw (p, e)
-
--- A candidate that doesn't hold the point, or fails the test, is passed.
-pub first-elsewhere : (t : Candidate → Bool) (c : Candidate) (cs : List Candidate) (x : ℕ) → pointsOf c x ≡ false → firstHolding (keep t (c ∷ cs)) x ≡ firstHolding (keep t cs) x
-unfolding keep firstHolding
-first-elsewhere t c cs x e = go (t c)
-  where
-    go : (s : Bool) → firstHolding (cond s (c ∷ keep t cs) (keep t cs)) x ≡ firstHolding (keep t cs) x
-    go true = rw e
-    go false = refl
-
-pub first-fails : (t : Candidate → Bool) (c : Candidate) (cs : List Candidate) (x : ℕ) → t c ≡ false → firstHolding (keep t (c ∷ cs)) x ≡ firstHolding (keep t cs) x
-unfolding keep
-first-fails t c cs x e = rw e
 
 -- ---- the equations put in, from y1 on
 

@@ -13,16 +13,16 @@ use lib.Seq.{take-add, take-at}
 use lib.Dec.{ltb}
 use borrow.Author.Tests.{ltb-true, ltb-false, eqb-true, eqb-false, eq-eqb}
 use Rattle.gf2.specs.Finite.{Mem, holds}
-use Rattle.table.specs.Refusal.{firstFault, Numbered, NoneApplies, Exact}
+use Rattle.table.specs.Refusal.{firstFault, Numbered, NoneApplies}
 use Rattle.table.specs.Decision.{front}
 use Rattle.table.specs.Table.{tableTests}
 use Rattle.table.proofs.Refusal.{no-fault, numbered}
-use Rattle.table.proofs.Decide.{decide-accepted, decide-refused, decide-exact}
+use Rattle.table.proofs.Decide.{decide-accepted, decide-refused}
 use Rattle.cubes.specs.Lists.{keep}
 use Rattle.cubes.specs.Cubes.{Candidate, candidate, degree}
 use Rattle.cubes.specs.Candidates.{candidates, candidateCount}
 use Rattle.cubes.specs.Records.{maxListed, recordLength, recordOf, recordsOf}
-use Rattle.cubes.specs.Listing.{Call, primeOf, listingTests, listingFault, accepted, Passage, nothing, passing, writing, passage, Full, Listed, listing, refusing, accepting, Answer, answer, listingRoom}
+use Rattle.cubes.specs.Listing.{Call, primeOf, listingTests, listingFault, accepted, Passage, nothing, passing, writing, passage, Full, Listed, listing, refusing, accepting, answer, listingRoom}
 use Rattle.cubes.proofs.Lists.{keep-append, flatMap-append}
 
 -- ---- records
@@ -173,11 +173,6 @@ pub room-off : (c : Call) → accepted c ≡ false → listingRoom c ≡ c .room
 unfolding listingRoom listingFault
 room-off c e =
     decide-refused (listingTests c) (front (recordsOf (listing c .primes)) (c .room)) (λ number. c .room) (firstFault (listingTests c)) (eqb-false (firstFault (listingTests c)) 0 e) refl
-
--- The refusal number is given exactly when its test applies and none before it does.
-pub answer-exact : (c : Call) → Exact (listingTests c) (answer c .refusal)
-unfolding answer
-answer-exact c = decide-exact (λ (a : Answer). a .refusal) (listingTests c) (accepting (c .place) (listing c)) refusing (listing-numbered c) refl (λ k. refl)
 
 pub call-listed : (c : Call) → Listed (primeOf (c .table)) (drop (c .place) (candidates (c .table .variables))) (c .allowance) (length (c .room)) (listing c)
 unfolding listing

@@ -10,16 +10,14 @@ use lib.ListN.{length, getD, set, length-append}
 use Rattle.gf2.specs.Limits.{maxVariables}
 use Rattle.gf2.specs.Finite.{Mem, holds, Rising, select}
 use Rattle.gf2.proofs.Finite.{select-mem, mem-select, select-rising, select-on, select-off, select-grows}
-use Rattle.table.specs.Refusal.{Numbered, Exact, roomFault}
+use Rattle.table.specs.Refusal.{Numbered, roomFault}
 use Rattle.table.specs.Decision.{front}
 use Rattle.table.proofs.Refusal.{no-fault, numbered}
-use Rattle.table.proofs.Decide.{decide-exact, call-refused, call-short, call-accepted}
-use Rattle.form.specs.declared.FormPoints.{FormPoints}
-use Rattle.form.specs.declared.FormRewrite.{FormRewrite}
+use Rattle.table.proofs.Decide.{call-refused, call-short, call-accepted}
 use Rattle.form.specs.Form.{Form, formAt, formPoints}
 use Rattle.form.specs.Decoding.{formVariables, decodeForm}
 use Rattle.form.specs.Walk.{walkedForm}
-use Rattle.form.specs.Reading.{IsForm, formFault, pointsOf, pointsTests, acceptedPoints, refusedPoints, pointsAnswer, pointsAfter, rewritten, rewriteTests, acceptedRewrite, refusedRewrite, rewriteAnswer, rewriteAfter}
+use Rattle.form.specs.Reading.{IsForm, formFault, pointsOf, acceptedPoints, refusedPoints, pointsAnswer, pointsAfter, rewritten, acceptedRewrite, refusedRewrite, rewriteAnswer, rewriteAfter}
 use Rattle.form.proofs.Laying.{LaidAs, form, form-laid}
 use Rattle.form.proofs.Encodings.{form-valid}
 use Rattle.table.proofs.Fill.{fill-push, fill-length}
@@ -109,24 +107,6 @@ module _ (bytes : List ℕ) (room : List ℕ) where
 pub slice-bytes : (bytes : List ℕ) → ((i : ℕ) → getD bytes i 0 < 256) → Bytes bytes
 slice-bytes (b ∷ bytes) h byte (inl e) = rw e (h 0)
 slice-bytes (b ∷ bytes) h byte (inr m) = slice-bytes bytes (λ i. h (suc i)) byte m
-
--- ---- the refusal number of each call is exact
-
-pub points-numbered : (bytes room : List ℕ) → Numbered (pointsTests bytes room)
-unfolding holds
-points-numbered bytes room = numbered (pointsTests bytes room) refl
-
-pub points-exact : (bytes room : List ℕ) → Exact (pointsTests bytes room) (pointsAnswer bytes room .refusal)
-unfolding pointsAnswer
-points-exact bytes room = decide-exact (λ (x : FormPoints). x .refusal) (pointsTests bytes room) (acceptedPoints bytes) refusedPoints (points-numbered bytes room) refl (λ k. refl)
-
-pub rewrite-numbered : (bytes room : List ℕ) → Numbered (rewriteTests bytes room)
-unfolding holds
-rewrite-numbered bytes room = numbered (rewriteTests bytes room) refl
-
-pub rewrite-exact : (bytes room : List ℕ) → Exact (rewriteTests bytes room) (rewriteAnswer bytes room .refusal)
-unfolding rewriteAnswer
-rewrite-exact bytes room = decide-exact (λ (x : FormRewrite). x .refusal) (rewriteTests bytes room) (acceptedRewrite bytes) refusedRewrite (rewrite-numbered bytes room) refl (λ k. refl)
 
 -- ---- the points of a form
 

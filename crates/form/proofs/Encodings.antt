@@ -20,11 +20,11 @@ use Rattle.table.proofs.Table.{good-count}
 use Rattle.product.specs.Product.{Factor, factor, fits, AllFit, Canonical, canonical, agrees}
 use Rattle.product.proofs.Product.{fits-is, canonical-is, canonical-next, canonical-prefix}
 use Rattle.records.specs.declared.Walk.the-variants.{Laid, After}
-use Rattle.form.specs.Form.{maxProducts, Form, ValidForm, formPoints}
+use Rattle.form.specs.Form.{maxProducts, Form, ValidForm}
 use Rattle.form.specs.Encoding.{encodeFactors, encodeProducts, encodeForm}
 use Rattle.form.specs.Decoding.{Parts, noParts, partsFrom, formProducts, decodeForm}
 use Rattle.form.specs.Walk.{walkedForm}
-use Rattle.form.specs.Reading.{IsForm, pointsOf, rewritten}
+use Rattle.form.specs.Reading.{IsForm}
 use Rattle.form.proofs.Laying.{Laying, ends, begins, holds, LaidAs, form, walk-laid, walk-longer, is-form, form-laid}
 
 -- ---- the parts of each record and of those that follow
@@ -123,12 +123,6 @@ decoded f = ap (λ (p : Parts). record { variables = f .variables; products = p 
 pub encoded-form : (f : Form) → ValidForm f → IsForm (encodeForm f)
 encoded-form f v = is-form (encoded-laid f v)
 
-pub encoded-points : (f : Form) → pointsOf (encodeForm f) ≡ formPoints f
-encoded-points f = ap formPoints (decoded f)
-
-pub encoded-again : (f : Form) → rewritten (encodeForm f) ≡ encodeForm f
-encoded-again f = ap encodeForm (decoded f)
-
 -- ---- what is read is a valid form
 
 -- What the parts of laid records are, after the factors before them in their product.
@@ -189,10 +183,6 @@ as-valid (form {n = n} {rest = rest} q b r) =
 
 as-count : {bytes : List ℕ} {all : ℕ} → LaidAs bytes all → all ≡ length (formProducts bytes)
 as-count (form q b r) = omega (arith, laying-count r)
-
--- The walk over accepted bytes gives the number of their products.
-pub form-walk : (bytes : List ℕ) → IsForm bytes → walkedForm bytes ≡ Laid (length (formProducts bytes))
-form-walk bytes h = let l = form-laid bytes h .1 in walk-laid l ∙ ap Laid (as-count l)
 
 -- Accepted bytes stand for a valid form.
 pub form-valid : (bytes : List ℕ) → IsForm bytes → ValidForm (decodeForm bytes)

@@ -21,7 +21,7 @@ use Rattle.gf2.proofs.Finite.{cons-all, map-mem, mem-map, select-on, se
 use Rattle.gf2.proofs.Xor.{xor-cancel}
 use Rattle.gf2.proofs.Leads.{Lead, lead-is, lead-pos, lead-xor, lead-eq, lead-below, lead-lt, lead-rise, lead-under, hasLead-ne}
 use Rattle.gf2.proofs.Span.{span-mem, span-xor, span-space, span-least, span-below, span-exchange}
-use Rattle.gf2.proofs.Reduce.{clear-cases, bit-clear, hasLead-clear, apart, reduced-pos, reduce-span, span-reduce, reduce-zero, hasLead-reduce, reduced-length}
+use Rattle.gf2.proofs.Reduce.{clear-cases, bit-clear, hasLead-clear, apart, reduced-pos, reduce-span, span-reduce, reduce-zero, hasLead-reduce}
 use Rattle.gf2.proofs.Unique.{unique}
 
 -- ---- placing a vector
@@ -277,6 +277,3 @@ inserts-one f = inserts-skip f 0 refl
 -- The basis of vectors below 2 ^ n has only such vectors, so at most n of them.
 pub inserts-below : (n : ℕ) (vs : List ℕ) → ((v : ℕ) → Mem v vs → v < 2 ^ n) → (c : ℕ) → Mem c (inserts [] vs) → c < 2 ^ n
 inserts-below n vs h c m = span-below n vs h c (inserts-span vs c .0 (span-mem (inserts [] vs) c m))
-
-pub inserts-length : (n : ℕ) (vs : List ℕ) → ((v : ℕ) → Mem v vs → v < 2 ^ n) → length (inserts [] vs) ≤ n
-inserts-length n vs h = reduced-length n (inserts [] vs) (inserts-reduced [] vs tt) (inserts-below n vs h)

@@ -2,7 +2,7 @@
 -- in which they differ. Read next: Odd.
 use mathlib.Core.Path.{_≡_, refl, sym, ap, ap₂, _∙_, subst}
 use mathlib.Core.Bool.{Bool, true, false}
-use mathlib.Core.Logic.{_⊎_, inl, inr, _≢_}
+use mathlib.Core.Logic.{inl, inr, _≢_}
 use Prim.Native.Nat.{ℕ, zero, suc, _+_, _/_, _%_, _^_, _≤_, _<_}
 use native.Mathlib.Nat.{eq-zero-or-pos, zero-div, div-eq-of-lt, div-add-mod', div-eq-of-lt-le, lt-of-not-le, mod-lt, zero-lt-suc, pos-of-ne-zero}
 use native.Mathlib.Numerals.{one-add}
@@ -13,7 +13,7 @@ use lib.Count.{leadingZeros, leading-top}
 use lib.Dec.{ltb, eqb}
 use lib.Pow.{pow-mono, shr-shr, pow-pos}
 use lib.Bits.{xor-zero-r, xor-shr}
-use borrow.Author.Tests.{ltb-true, ltb-false}
+use borrow.Author.Tests.{ltb-true}
 use Rattle.gf2.specs.Bits.{_⊕_, _⊻_, bit, Highest, halvings, lead, hasLead}
 use Rattle.gf2.proofs.Logic.{clash, ltb-same}
 use Rattle.gf2.proofs.Xor.{xor-half, xor-low, two-digits, bit-xor, bit-big, bit-is, xor-cancel-l, xor-fix, xor-eq}
@@ -72,19 +72,6 @@ lead-highest v p =
       above = λ j h. bit-big j v (omega (arith, lead-high (lead v) v e, pow-mono h));
     }
 
--- And the highest set bit is the lead.
-pub highest-lead : (k v : ℕ) → Highest k v → lead v ≡ k
-highest-lead k v t = go (eq-zero-or-pos v)
-  where
-    apart : 0 < v → Dec (lead v ≡ k) → Dec (lead v ≤ k) → lead v ≡ k
-    apart p (yes e) d = e
-    apart p (no n) (yes l) = clash (t .set) (lead-highest v p .above k (lt-of-le-ne l n))
-    apart p (no n) (no l) = clash (lead-highest v p .set) (t .above (lead v) (lt-of-not-le l))
-
-    go : (v ≡ 0) ⊎ (0 < v) → lead v ≡ k
-    go (inl z) = clash (t .set) (rw z (bit-big k 0 (pow-pos k)))
-    go (inr p) = apart p (ℕ-discrete (lead v) k) (decLe (lead v) k)
-
 -- In a word of w digits the leading zeros and the digits from the lead down are all there is (document 02, No. 2).
 pub lead-zeros : (w v : ℕ) → 0 < v → v < 2 ^ w → leadingZeros w v + suc (lead v) ≡ w
 lead-zeros w v p h =
@@ -128,9 +115,6 @@ hasLead-ne b x p e q = clash (hasLead-self b p) (subst (λ (z : ℕ). hasLead b 
 -- Clearing the lead bit lowers a number, setting it does not.
 pub hasLead-lt : (b x : ℕ) → 0 < b → hasLead b x ≡ true → x ⊕ b < x
 hasLead-lt b x p e = ltb-true (x ⊕ b) x (falls-lead b x p ∙ e)
-
-pub hasLead-le : (b x : ℕ) → 0 < b → hasLead b x ≡ false → x ≤ x ⊕ b
-hasLead-le b x p e = ltb-false (x ⊕ b) x (falls-lead b x p ∙ e)
 
 -- ---- leads compared
 

@@ -227,11 +227,6 @@ canonical-prefix (f ∷ fs) gs e = and-i (every (apart f) fs) (canonical fs)
     (and-l (every (apart f) fs) (every (apart f) gs) (sym (every-append (apart f) fs gs) ∙ and-l (every (apart f) (fs ++ gs)) (canonical (fs ++ gs)) e))
     (canonical-prefix fs gs (and-r (every (apart f) (fs ++ gs)) (canonical (fs ++ gs)) e))
 
--- A product at a point factor by factor, a form product by product.
-pub product-append : (fs gs : List Factor) (w : ℕ) → productAt (fs ++ gs) w ≡ productAt fs w && productAt gs w
-unfolding productAt
-product-append fs gs w = every-append (λ f. factorAt f w) fs gs
-
 pub some-product-append : (ps qs : List (List Factor)) (w : ℕ) → someProductAt (ps ++ qs) w ≡ someProductAt ps w || someProductAt qs w
 unfolding someProductAt
 some-product-append [] qs w = refl

@@ -20,7 +20,7 @@ use Rattle.gf2.proofs.Finite.{map-mem, mem-map, holds-mem, ordered-map}
 use Rattle.gf2.proofs.Xor.{xor-cancel}
 use Rattle.gf2.proofs.Leads.{lead-fits, differ-pos}
 use Rattle.gf2.proofs.Span.{span-mem, coset-self, coset-directions}
-use Rattle.gf2.proofs.Reduce.{reduced-length, reduce-least}
+use Rattle.gf2.proofs.Reduce.{reduce-least}
 use Rattle.gf2.proofs.Unique.{unique}
 use Rattle.gf2.proofs.Insert.{inserts-reduced, inserts-mem, inserts-least}
 use Rattle.gf2.proofs.Variables.{mem-places, places-falling, canonical-length, span-isLead}
@@ -67,9 +67,6 @@ coset-below n p bs h c m =
 pub directions-below : (n : ℕ) (ps : List ℕ) → ((q : ℕ) → Mem q ps → q < 2 ^ n) → (c : ℕ) → Mem c (directions ps) → c < 2 ^ n
 directions-below n [] h c m = unfold directions in absurd m
 directions-below n (p ∷ ps) h c m = coset-below n (leastPoint (p ∷ ps)) (directions (p ∷ ps)) (affine-below n p ps h) c m
-
-pub directions-length : (n : ℕ) (ps : List ℕ) → ((q : ℕ) → Mem q ps → q < 2 ^ n) → length (directions ps) ≤ n
-directions-length n ps h = reduced-length n (directions ps) (directions-reduced ps) (directions-below n ps h)
 
 -- ---- its least point
 

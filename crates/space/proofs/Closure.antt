@@ -5,7 +5,6 @@ use mathlib.Core.Bool.{Bool, true, false, Bool·beq}
 use mathlib.Core.Logic.{_↔_}
 use mathlib.Core.List.{List, []}
 use Prim.Native.Nat.{ℕ, _^_, _≤_, _<_}
-use lib.ListN.{length}
 use lib.Pow.{pow-pos}
 use lib.Bits.{xor-zero-r, xor-lt}
 use Rattle.gf2.specs.Bits.{_⊕_}
@@ -87,10 +86,6 @@ closed-ext n f g h a l = all-ext (λ w. Bool·beq (f (w ⊕ a)) (f w)) (λ w. Bo
 pub linear-ext : (n : ℕ) (f g : ℕ → Bool) → ((w : ℕ) → w < 2 ^ n → f w ≡ g w) → linearSpace n f ≡ linearSpace n g
 unfolding linearSpace
 linear-ext n f g h = basis-ext n (closed n f) (closed n g) (closed-ext n f g h)
-
-pub degree-ext : (n : ℕ) (f g : ℕ → Bool) → ((w : ℕ) → w < 2 ^ n → f w ≡ g w) → degree n f ≡ degree n g
-unfolding degree
-degree-ext n f g h = ap length (linear-ext n f g h)
 
 -- ---- the linear space by putting in, one at a time, the vectors under which the function is closed
 

@@ -3,26 +3,25 @@
 use mathlib.Core.Path.{_≡_, refl, sym, ap, _∙_}
 use mathlib.Core.Bool.{Bool, true, false, cond, _&&_}
 use mathlib.Core.List.{List, [], _∷_, _++_, map}
-use Prim.Native.Nat.{ℕ, suc, _+_, _*_, _^_, _≤_, _<_}
+use Prim.Native.Nat.{ℕ, suc, _+_, _*_, _^_, _<_}
 use native.Mathlib.Nat.{add-mul, mul-assoc, one-mul, zero-mul, pow-suc}
 use native.Mathlib.Omega.{arith}
-use lib.ListN.{length, length-append, length-map, take, getD}
+use lib.ListN.{length, length-append, take, getD}
 use lib.Seq.{take-suc}
 use lib.Dec.{eqb}
 use lib.Bits.{bitAnd, xor-comm, xor-self}
 use borrow.Author.Tests.{eqb-true, eq-eqb}
 use Rattle.gf2.specs.Bits.{_⊕_, bit, lead, hasLead}
-use Rattle.gf2.specs.Finite.{Mem, select}
-use Rattle.gf2.specs.Parity.{odd}
-use Rattle.gf2.specs.Basis.{Reduced, reduce, insert, inserts, isLead, leadMask, placesAt, canonicalPlaces, noncanonicalPlaces}
+use Rattle.gf2.specs.Finite.{Mem}
+use Rattle.gf2.specs.Basis.{Reduced, reduce, insert, inserts, isLead, leadMask, placesAt}
 use Rattle.gf2.proofs.Logic.{same}
 use Rattle.gf2.proofs.Xor.{bit-and, bit-ext, bit-zero, xor-assoc}
 use Rattle.gf2.proofs.Insert.{insert-known, inserts-snoc}
 use Rattle.gf2.proofs.Variables.{isLead-at, isLead-off, bit-leadMask}
-use Rattle.space.specs.Restriction.{equation, number, project, values, clean, restriction}
-use Rattle.space.specs.Affine.{directions, leastPoint, projection}
+use Rattle.space.specs.Restriction.{equation, number, project, clean}
+use Rattle.space.specs.Affine.{directions, leastPoint}
 use Rattle.space.proofs.Restriction.{number-step, clean-at, clean-of}
-use Rattle.gf2.proofs.Finite.{map-snoc, map-take, select-grows}
+use Rattle.gf2.proofs.Finite.{map-take}
 
 -- ---- numbers bit by bit, the highest first
 
@@ -36,28 +35,10 @@ number-snoc (true ∷ ts) t =
     rw e (omega (arith, number-snoc ts t))
 number-snoc (false ∷ ts) t = omega (arith, number-snoc ts t)
 
-pub project-snoc : (ks : List ℕ) (k w : ℕ) → project (ks ++ (k ∷ [])) w ≡ 2 * project ks w + cond (bit k w) 1 0
-unfolding project
-project-snoc ks k w = ap number (map-snoc (λ j. bit j w) ks k) ∙ number-snoc (map (λ j. bit j w) ks) (bit k w)
-
-pub values-snoc : (ms : List ℕ) (m w : ℕ) → values (ms ++ (m ∷ [])) w ≡ 2 * values ms w + cond (odd m w) 1 0
-unfolding values
-values-snoc ms m w = ap number (map-snoc (λ e. odd e w) ms m) ∙ number-snoc (map (λ e. odd e w) ms) (odd m w)
-
-pub project-take : (ks : List ℕ) (j w : ℕ) → j < length ks → project (take (suc j) ks) w ≡ 2 * project (take j ks) w + cond (bit (getD ks j 0) w) 1 0
-project-take ks j w h = ap (λ l. project l w) (take-suc ks j 0 h) ∙ project-snoc (take j ks) (getD ks j 0) w
-
-pub values-take : (ms : List ℕ) (j w : ℕ) → j < length ms → values (take (suc j) ms) w ≡ 2 * values (take j ms) w + cond (odd (getD ms j 0) w) 1 0
-values-take ms j w h = ap (λ l. values l w) (take-suc ms j 0 h) ∙ values-snoc (take j ms) (getD ms j 0) w
-
 -- One bit more at the front.
 pub project-cons : (k : ℕ) (ks : List ℕ) (w : ℕ) → project (k ∷ ks) w ≡ cond (bit k w) (2 ^ length ks) 0 + project ks w
 unfolding project
 project-cons k ks w = number-step (λ j. bit j w) k ks
-
-pub values-cons : (m : ℕ) (ms : List ℕ) (w : ℕ) → values (m ∷ ms) w ≡ cond (odd m w) (2 ^ length ms) 0 + values ms w
-unfolding values
-values-cons m ms w = number-step (λ e. odd e w) m ms
 
 -- From the highest bit down: the bits found, above those still to come.
 shift : (t : Bool) (a p x : ℕ) → a * (p * 2) + (cond t p 0 + x) ≡ (2 * a + cond t 1 0) * p + x
@@ -103,18 +84,6 @@ pub project-kept : (q : ℕ → Bool) (k w : ℕ) → q k ≡ true → project (
 unfolding placesAt
 project-kept q k w e = rw e (project-cons k (placesAt k q) w)
 
-pub project-dropped : (q : ℕ → Bool) (k w : ℕ) → q k ≡ false → project (placesAt (suc k) q) w ≡ project (placesAt k q) w
-unfolding placesAt
-project-dropped q k w e = rw e
-
-pub places-kept : (q : ℕ → Bool) (k : ℕ) → q k ≡ true → length (placesAt (suc k) q) ≡ suc (length (placesAt k q))
-unfolding placesAt
-places-kept q k e = rw e
-
-pub places-dropped : (q : ℕ → Bool) (k : ℕ) → q k ≡ false → length (placesAt (suc k) q) ≡ length (placesAt k q)
-unfolding placesAt
-places-dropped q k e = rw e
-
 -- ---- an equation vector by vector
 
 pub equation-nil : (k : ℕ) → equation [] k ≡ 2 ^ k
@@ -148,40 +117,6 @@ clean-mask bs r w = same (clean bs w) (eqb (bitAnd (leadMask bs) w) 0)
     back c m e true q = sym (bit-and (lead c) (leadMask bs) w ∙ rw (bit-leadMask bs r (lead c), q)) ∙ ap (bit (lead c)) e ∙ bit-zero (lead c)
     back c m e false q = absurd (isLead-off bs (lead c) q c m refl)
 
--- ---- the restriction up to a point
-
--- What the points below k give to the restriction.
-unfoldable pub restricted : ℕ → List ℕ → (ℕ → Bool) → ℕ → List ℕ
-restricted n bs f k = map (project (noncanonicalPlaces n bs)) (select (λ w. f w && clean bs w) k)
-
-pub restricted-none : (n : ℕ) (bs : List ℕ) (f : ℕ → Bool) → restricted n bs f 0 ≡ []
-unfolding restricted select
-restricted-none n bs f = refl
-
-pub restricted-all : (n : ℕ) (bs : List ℕ) (f : ℕ → Bool) → restricted n bs f (2 ^ n) ≡ restriction n bs f
-unfolding restricted restriction
-restricted-all n bs f = refl
-
-pub restricted-step : (n : ℕ) (bs : List ℕ) (f : ℕ → Bool) (k : ℕ)
-    → restricted n bs f (suc k) ≡ cond (f k && clean bs k) (restricted n bs f k ++ (project (noncanonicalPlaces n bs) k ∷ [])) (restricted n bs f k)
-unfolding restricted select
-restricted-step n bs f k = go (f k && clean bs k)
-  where
-    ws : List ℕ
-    ws = select (λ w. f w && clean bs w) k
-
-    go : (t : Bool) → map (project (noncanonicalPlaces n bs)) (cond t (ws ++ (k ∷ [])) ws)
-        ≡ cond t (map (project (noncanonicalPlaces n bs)) ws ++ (project (noncanonicalPlaces n bs) k ∷ [])) (map (project (noncanonicalPlaces n bs)) ws)
-    go true = map-snoc (project (noncanonicalPlaces n bs)) ws k
-    go false = refl
-
--- It only grows.
-pub restricted-grows : (n : ℕ) (bs : List ℕ) (f : ℕ → Bool) (j k : ℕ) → j ≤ k → length (restricted n bs f j) ≤ length (restricted n bs f k)
-unfolding restricted
-restricted-grows n bs f j k h =
-    rw (length-map (select (λ w. f w && clean bs w) j) (project (noncanonicalPlaces n bs)), length-map (select (λ w. f w && clean bs w) k) (project (noncanonicalPlaces n bs)))
-    (select-grows (λ w. f w && clean bs w) j k h)
-
 -- ---- the smallest affine space point by point
 
 -- The directions of the first points of the list, from the point p.
@@ -204,8 +139,3 @@ pub leastPoint-is : (ps : List ℕ) → 0 < length ps → leastPoint ps ≡ redu
 unfolding leastPoint
 leastPoint-is [] h = absurd (omega arith)
 leastPoint-is (p ∷ ps) h = refl
-
-pub projection-take : (n : ℕ) (bs ps : List ℕ) (j : ℕ) → j < length ps
-    → projection n bs (take (suc j) ps) ≡ projection n bs (take j ps) ++ (project (canonicalPlaces n bs) (getD ps j 0) ∷ [])
-unfolding projection
-projection-take n bs ps j h = map-take (project (canonicalPlaces n bs)) ps j 0 h

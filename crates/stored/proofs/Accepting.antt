@@ -7,9 +7,9 @@ use mathlib.Core.List.{List}
 use Prim.Native.Nat.{ℕ}
 use Rattle.gf2.specs.Finite.{holds}
 use Rattle.table.specs.Refusal.{Numbered, NoneApplies}
-use Rattle.table.specs.Table.{Accepted, tableFault}
+use Rattle.table.specs.Table.{Accepted}
 use Rattle.table.proofs.Refusal.{no-fault, numbered, fault-before}
-use Rattle.table.proofs.Table.{good-count, inside, rising, no-refusal}
+use Rattle.table.proofs.Table.{good-count, inside, rising}
 use Rattle.records.specs.declared.Walk.{Walk}
 use Rattle.records.specs.Walks.{isFault, layoutTests, layoutOf}
 use Rattle.stored.specs.Layout.{walked}
@@ -54,7 +54,3 @@ stored-accepted bytes e =
       free-rising = points-rising false (marks bytes) rises;
       apart = points-apart (marks bytes) rises;
     }
-
--- So it has none of the refusals of a table given by lists.
-pub stored-table : (bytes : List ℕ) → storedFault bytes ≡ 0 → tableFault (storedVariables bytes) (storedOn bytes) (storedFree bytes) ≡ 0
-stored-table bytes e = no-refusal (storedVariables bytes) (storedOn bytes) (storedFree bytes) (stored-accepted bytes e)

@@ -100,10 +100,6 @@ as-encoded b (table {byte} {n} {rest} {all} q r) =
     let others = laying-encoded (λ x m. b x (inr (inr m))) r in
     rw number (cc)
 
--- What the walk finds to be a table is the encoding of what is read there.
-pub laid-encoded : (bytes : List ℕ) (all : ℕ) → Bytes bytes → walked bytes ≡ Laid all → (bytes ≡ encodeTable (storedVariables bytes) (marks bytes)) × (length (marks bytes) ≡ all) × (all ≤ maxPoints)
-laid-encoded bytes all b e = let a = laid bytes all e in (as-encoded b a, laid-marks a, laid-few a)
-
 as-words : {bytes : List ℕ} {all : ℕ} → Bytes bytes → LaidAs bytes all → (storedVariables bytes < 256) × ((m : Mark) → Mem m (marks bytes) → m .point < 65536)
 as-words b (table {byte} {n} q r) = (b n (inr (inl refl)), laying-words (λ x m. b x (inr (inr m))) r)
 

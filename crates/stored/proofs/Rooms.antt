@@ -9,20 +9,15 @@ use native.Mathlib.Omega.{arith}
 use lib.Dec.{ltb}
 use lib.ListN.{length}
 use borrow.Author.Tests.{ltb-false}
-use Rattle.gf2.specs.Finite.{holds}
 use Rattle.gf2.proofs.Logic.{or-none}
-use Rattle.table.specs.Refusal.{Test, Numbered, test, firstFault, roomFault}
+use Rattle.table.specs.Refusal.{Test, test, firstFault, roomFault}
 use Rattle.table.specs.Decision.{front}
-use Rattle.table.proofs.Refusal.{numbered, fault-append, fault-before}
+use Rattle.table.proofs.Refusal.{fault-append, fault-before}
 use Rattle.table.proofs.Decide.{decide-accepted, decide-refused}
 use Rattle.stored.specs.Marks.{storedOn, storedFree}
 use Rattle.stored.specs.Stored.{storedTests, storedFault}
 use Rattle.stored.specs.Reading.{readTests, readFault, refusedRead, acceptedRead, readAnswer, onAfter, freeAfter}
 use Rattle.stored.proofs.Accepting.{stored-numbered}
-
-pub read-numbered : (bytes : List ℕ) (on free : ℕ) → Numbered (readTests bytes on free)
-unfolding holds
-read-numbered bytes on free = numbered (readTests bytes on free) refl
 
 -- A list is longer than its room.
 abbrev pub short : List ℕ → ℕ → ℕ → Bool
