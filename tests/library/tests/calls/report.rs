@@ -143,7 +143,7 @@ fn faulty_points() {
 #[test]
 fn random_records() {
     let mut generator = Generator::new(185);
-    let inputs = (0..5_000).flat_map(|_| {
+    let inputs = (0..20_000).flat_map(|_| {
         let mostly_right = stored::random_records(&mut generator);
         [mostly_right, generate::random_records(&mut generator, 6)]
     });
