@@ -3,15 +3,25 @@
  *
  *     cc -Iinclude program.c target/staticlib/libglospruma.a
  *
- * The example program tests/c/examples.c makes every call. For Rust, the package in the folder rust has the same calls with slices.
+ * To start from: examples/write_form.c, a stored table to the bytes of its form, and examples/form_points.c, these bytes to their points.
+ * tests/c/examples.c makes every call. For Rust, the package in the folder rust has the same calls with slices.
  *
  * Points are numbers below 2^n; x1 is the highest bit of a point, xn its lowest. A table is a rising list of on points and a rising list of
- * free points; all other points are off.
+ * free points; all other points are off. A mask names variables by the same bits.
+ *
+ * Stored tables and forms are records: a byte of kind, here in hexadecimal, and its body, numbers of two bytes with the low byte first (README.md,
+ * "The bytes", has every rule).
+ *
+ *     table   4E n, then for each point, rising: 4F point if it is on, 44 point if it is free; 45 and the number of points (2 bytes)
+ *     form    4E n, then for each product: 50 and its factors, each 58 constant (1 byte) mask (2 bytes); 45 and the number of products (2 bytes)
+ *
+ * A factor is true where the XOR of its mask's variables is its constant, a product where all its factors are, a form where some product is.
  *
  * What the caller sees to, and all that it has to see to:
  *
  * - A list or a room passes as a pointer and its length, counted in its own elements: so many can be read there, and in a room written.
- * - A pointer is never NULL, not even where the length is 0: any address does then. A pointer to 16-bit numbers is even.
+ * - A pointer is never NULL, not even where the length is 0: any address does then, such as that of another list. A pointer to 16-bit numbers
+ *   is even.
  * - A room overlaps no other room and no list of the same call. Lists may overlap.
  * - Nothing else writes to a list or touches a room while the call runs. Calls in several threads are otherwise independent.
  * - The thread has 128 KiB of stack left. Most calls use far less.
@@ -42,8 +52,10 @@ extern "C" {
 #define GLOSPRUMA_FORM_ROOM 3141
 #define GLOSPRUMA_REPORT_ROOM 24576
 
-/* The length of a record of the listing: degree, least point, basis vectors rising, unused bytes 0. */
+/* The length of a record of the listing: degree, least point, basis vectors rising, unused bytes 0. And bytes of room that always suffice for
+ * all records of a table: six variables have 2,825 spaces, and a space has at most one prime. */
 #define GLOSPRUMA_RECORD_LENGTH 8
+#define GLOSPRUMA_LISTING_ROOM 22600
 
 /* Each call tests what concerns it in the order 1, 2, 3, 4, 6, 5, 9, 7, and bytes for 8 first; the first that applies is given. */
 enum glospruma_refusal {
@@ -135,7 +147,8 @@ typedef struct {
 } glospruma_listed;
 
 /* The primes of a table from a place on, at most `allowance` candidates, records into the room; a room that runs short stops the listing.
- * Refusals 1, 2, 3, 4, 5, 9. */
+ * Start at place 0 and go on at `next` until it is the number of candidates: 3, 11, 51, 307, 2451, 26387 for n = 1 to 6. With an allowance and
+ * room for a record every call gets further; with UINT64_MAX and GLOSPRUMA_LISTING_ROOM one call does. Refusals 1, 2, 3, 4, 5, 9. */
 glospruma_listed glospruma_list_primes(size_t n, const uint16_t *on, size_t on_length, const uint16_t *free_points, size_t free_length,
                                        uint64_t place, uint64_t allowance, uint8_t *room, size_t room_length);
 
@@ -171,8 +184,8 @@ typedef struct {
     size_t length; /* bytes of text written */
 } glospruma_report_written;
 
-/* The printed report of a stored table, as text into the room. A table that is refused is reported by the line `refused N`; the call itself
- * is refused only with 7. */
+/* The printed report of a stored table, as text into the room, without a 0 byte after it. A table that is refused is reported by the line
+ * `refused N`; the call itself is refused for its room alone. Refusal 7. */
 glospruma_report_written glospruma_report(const uint8_t *bytes, size_t bytes_length, uint8_t *room, size_t room_length);
 
 #ifdef __cplusplus

@@ -2,7 +2,7 @@
  * answers. Prints how many cases passed, `N passed, 0 failed`, or what differs, and then exits with 1. To build and run it, in the folder of the
  * repository:
  *
- *     cc -std=c99 -Wall -Wextra -Werror -pedantic -Iinclude tests/c/examples.c target/staticlib/libglospruma.a -o examples && ./examples
+ *     cc -std=c99 -Wall -Wextra -Werror -pedantic -Iinclude tests/c/examples.c target/staticlib/libglospruma.a -o target/examples && target/examples
  *
  * Every list and room is an allocation of its own and of its exact length, so that a tool that watches memory sees each access beyond it.
  */
