@@ -1,5 +1,5 @@
 //! Written forms: the form of a table, and reading a form. Follows document 01,
-//! section "The written form".
+//! section "The written form"; README.md, "The bytes", has every rule.
 
 use crate::raw;
 use crate::refusal::{check, Refusal};
@@ -13,8 +13,11 @@ pub struct WrittenForm<'a> {
     pub products: usize,
 }
 
-/// Writes the form of the completed function of a table to the room. Refusals
-/// [`Variables`](Refusal::Variables), [`Point`](Refusal::Point),
+/// Writes the form of the completed function of a table to the room: the bytes 4E
+/// n; for each product 50, and 58, constant and mask for each factor; then 45 and
+/// the number of products. Masks and that number have two bytes, the low one
+/// first. A factor is true where the XOR of its mask's variables is the constant.
+/// Refusals [`Variables`](Refusal::Variables), [`Point`](Refusal::Point),
 /// [`Order`](Refusal::Order), [`Shared`](Refusal::Shared),
 /// [`Size`](Refusal::Size), then [`Room`](Refusal::Room).
 ///

@@ -25,6 +25,23 @@
 //! # Ok::<(), Refusal>(())
 //! ```
 //!
+//! From a stored table to the bytes of its form, and from these to its points,
+//! with rooms that always suffice:
+//!
+//! ```
+//! use glospruma::{form_points, read_table, write_form, Refusal, MAX_POINTS, WRITTEN_ROOM};
+//!
+//! let stored = [0x4E, 3, 0x4F, 1, 0, 0x4F, 2, 0, 0x4F, 4, 0, 0x4F, 7, 0, 0x45, 4, 0];
+//! let (mut on, mut free) = ([0; MAX_POINTS], [0; MAX_POINTS]);
+//! let table = read_table(&stored, &mut on, &mut free)?;
+//! let mut room = [0; WRITTEN_ROOM];
+//! let form = write_form(table.variables, table.on, table.free, &mut room)?;
+//! assert_eq!(form.bytes, [0x4E, 3, 0x50, 0x58, 1, 7, 0, 0x45, 1, 0]);
+//! let mut points = [0; MAX_POINTS];
+//! assert_eq!(form_points(form.bytes, &mut points)?.points, table.on);
+//! # Ok::<(), Refusal>(())
+//! ```
+//!
 //! [`raw`] has the same calls with their numbers as they come.
 //!
 //! To build: `rt staticlib glospruma` in the folder of the repository, once, and
@@ -71,3 +88,11 @@ pub const REPORT_ROOM: usize = 24_576;
 
 /// Bytes of a record of the listing.
 pub const RECORD_LENGTH: usize = 8;
+
+/// Room that always suffices for all records of a table: six variables have 2,825
+/// spaces, and a space has at most one prime.
+pub const LISTING_ROOM: usize = 22_600;
+
+/// The numbers of candidates of 1 to 6 variables: the places at which a listing
+/// ends.
+pub const CANDIDATES: [u64; MAX_LISTED] = [3, 11, 51, 307, 2_451, 26_387];

@@ -42,20 +42,23 @@ impl<'a> Listing<'a> {
 /// Lists the primes of a table from a place on: passes candidates in order until
 /// the end, until the allowance of candidates is spent, or until a prime no
 /// longer fits the room, to which the records go. A place is a number of
-/// candidates behind: a listing starts at 0 and goes on at
-/// [`next`](Listing::next). Refusals [`Variables`](Refusal::Variables),
+/// candidates behind: a listing starts at 0, goes on at [`next`](Listing::next) and
+/// ends at the number of [`CANDIDATES`](crate::CANDIDATES). With an allowance and
+/// room for a record every call gets further; with `u64::MAX` and
+/// [`LISTING_ROOM`](crate::LISTING_ROOM) one call lists all. Refusals
+/// [`Variables`](Refusal::Variables),
 /// [`Point`](Refusal::Point), [`Order`](Refusal::Order),
 /// [`Shared`](Refusal::Shared), [`Size`](Refusal::Size),
 /// [`Place`](Refusal::Place); a room that runs short is no refusal.
 ///
 /// ```
-/// use glospruma::{list_primes, Refusal, RECORD_LENGTH};
+/// use glospruma::{list_primes, Refusal, CANDIDATES, RECORD_LENGTH};
 ///
-/// let on = [2, 3, 5, 6, 7];
+/// let (n, on) = (3, [2, 3, 5, 6, 7]);
 /// let mut room = [0; 2 * RECORD_LENGTH];
 /// let (mut place, mut found) = (0, Vec::new());
-/// while place < 51 {
-///     let listing = list_primes(3, &on, &[], place, u64::MAX, &mut room)?;
+/// while place < CANDIDATES[n - 1] {
+///     let listing = list_primes(n, &on, &[], place, u64::MAX, &mut room)?;
 ///     found.extend(listing.primes().map(|prime| (prime.least, prime.basis.to_vec())));
 ///     place = listing.next;
 /// }

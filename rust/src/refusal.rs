@@ -24,7 +24,8 @@ pub enum Refusal {
     Order = 3,
     /// A point stands in both lists.
     Shared = 4,
-    /// Listing with n above 6, or a form with n-k above 6.
+    /// Listing with n above 6, or a form with n-k above 6: the restriction of its
+    /// table has that many variables.
     Size = 5,
     /// Smallest affine space of an empty on set.
     Affine = 6,

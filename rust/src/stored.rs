@@ -15,7 +15,9 @@ pub struct Table<'a> {
     pub free: &'a [u16],
 }
 
-/// Reads a stored table into two rooms. Refusals [`Layout`](Refusal::Layout),
+/// Reads a stored table into two rooms: the bytes 4E n; then, points rising, 4F and
+/// an on point or 44 and a free point; then 45 and the number of points. Points
+/// and their number have two bytes, the low one first. Refusals [`Layout`](Refusal::Layout),
 /// then [`Variables`](Refusal::Variables), [`Point`](Refusal::Point),
 /// [`Order`](Refusal::Order), then [`Room`](Refusal::Room) if either room is
 /// short, and then neither is written.

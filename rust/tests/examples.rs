@@ -6,7 +6,7 @@
 
 use glospruma::{
     affine, analyse, complete, form_points, form_rewrite, linear_space, list_primes, raw,
-    read_table, report, write_form, Listing, Refusal,
+    read_table, report, write_form, Listing, Refusal, CANDIDATES, LISTING_ROOM,
 };
 use std::mem::size_of;
 
@@ -155,6 +155,22 @@ fn p6_in_pieces() {
             place = listing.next;
         }
         assert_eq!(joined, records);
+    }
+}
+
+/// The listing ends where the package says, and its room suffices: of no point, of
+/// all points, and of one that is off.
+#[test]
+fn listings_end_at_the_number_of_candidates() {
+    for (n, end) in (1..).zip(CANDIDATES) {
+        let all: Vec<u16> = (0..1 << n).collect();
+        for on in [&all[..0], &all, &all[1..]] {
+            let mut room = vec![9; LISTING_ROOM];
+            let listing = list_primes(n, on, &[], 0, u64::MAX, &mut room).expect("accepted");
+            assert_eq!((listing.next, listing.passed), (end, end));
+            let beyond = list_primes(n, on, &[], end + 1, 0, &mut room);
+            assert_eq!(beyond, Err(Refusal::Place));
+        }
     }
 }
 
