@@ -1,0 +1,18 @@
+//! The documents hold: what README.md and docs/*.md name is there. Theorems,
+//! definitions, functions and must-fail edits are defined in the crate or file
+//! named beside them (`proved`, `specification`), names in running text somewhere
+//! (`prose`), calls and refusal numbers are those of the code and of the header
+//! (`calls`), every crate has its row (`crates`), and files exist (`files`).
+//!
+//! Every check returns what it finds wrong, so that it can be tried on a document
+//! with a mistake in it: misspelt, each name that a check reads is found.
+
+mod names;
+mod tables;
+
+mod calls;
+mod crates;
+mod files;
+mod prose;
+mod proved;
+mod specification;
