@@ -1,4 +1,7 @@
 -- Laws about the definitions in specs/; read in this order. Those that other crates cite: `mask-least`, `mask-below` (Masks), `entries-bases`,
--- `entry-mask`, `entry-bytes`, `entries-fewer`, `entries-at` (Table).
+-- `entry-mask`, `entries-fewer`, `entries-at` (Table), `bounds`, `entry-at`, `entry-mem` (Bounds), `vectors-step`, `vectors-each`,
+-- `entry-candidate`, `entry-record` (Entry).
 pub mod Masks
 pub mod Table
+pub mod Bounds
+pub mod Entry

@@ -1,4 +1,4 @@
--- What an entry of the table says, and which entries serve fewer variables and a given least point.
+-- What an entry of the table says, and which entries serve fewer variables and a given least point. Read next: Entry.
 use mathlib.Core.Bool.{Bool, _&&_}
 use mathlib.Core.List.{List, [], _∷_}
 use Prim.Native.Nat.{ℕ, zero, suc, _/_, _%_, _^_}
@@ -7,6 +7,10 @@ use lib.Seq.{slice}
 use lib.Dec.{ltb, eqb}
 use lib.Bits.{bitAnd}
 use Rattle.bases.specs.Entries.{entries}
+
+-- The number of entries.
+abbrev pub entryCount : ℕ
+entryCount = 2825
 
 -- The entries of bases of d vectors stand from `start d` to before `stop d`.
 abbrev pub start : ℕ → ℕ

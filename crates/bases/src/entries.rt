@@ -2,8 +2,11 @@
 ghost use mathlib.Core.Path.{_≡_};
 ghost use Rattle.bases.specs.Entries.{entries};
 
+// The number of entries, as `entryCount` in specs/.
+pub const ENTRY_COUNT: usize = 2825;
+
 // The entries, as `entries` has them.
-const ENTRIES: [u64; 2825] = [
+const ENTRIES: [u64; ENTRY_COUNT] = [
     17768176758817281,
     8725793131987457,
     13229461478834689,
@@ -2832,7 +2835,7 @@ const ENTRIES: [u64; 2825] = [
 ];
 
 // The whole table, for a loop over its entries.
-pub fn table() -> [u64; 2825]
+pub fn table() -> [u64; ENTRY_COUNT]
     ensures { λ r. ⌜ r ≡ entries ⌝ }
 {
     ENTRIES

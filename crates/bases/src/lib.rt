@@ -1,2 +1,43 @@
-// The reduced bases of at most six variables as one constant table (document 01, "Primes"): what the listing goes through.
+// The reduced bases of at most six variables as one constant table (document 01, "Primes"): where the entries of a degree stand, and which serve
+// fewer variables and a given least point. The table itself is in `entries`. Read next: specs/Bases.antt.
 pub mod entries;
+
+ghost use mathlib.Core.Path.{_≡_};
+ghost use Prim.Native.Nat.{_≤_};
+ghost use Rattle.cubes.specs.Records.{maxListed};
+ghost use Rattle.bases.specs.Bases.{start, stop, fitsEntry, takesPoint};
+
+// Where the entries of d vectors begin and end.
+const STARTS: [usize; 7] = [2824, 2761, 2110, 715, 64, 1, 0];
+
+const STOPS: [usize; 7] = [2825, 2824, 2761, 2110, 715, 64, 1];
+
+pub fn start_of(d: usize) -> usize
+    requires { ⌜ d ≤ maxListed ⌝ }
+    ensures { λ r. ⌜ r ≡ start d ⌝ }
+{
+    STARTS[d]
+}
+
+pub fn stop_of(d: usize) -> usize
+    requires { ⌜ d ≤ maxListed ⌝ }
+    ensures { λ r. ⌜ r ≡ stop d ⌝ }
+{
+    STOPS[d]
+}
+
+// Whether the entry is a basis of n variables: its lead bits, which stand above its sixth byte, are bits of those.
+pub fn fits(n: usize, entry: u64) -> bool
+    requires { ⌜ n ≤ maxListed ⌝ }
+    ensures { λ r. ⌜ r ≡ fitsEntry n entry ⌝ }
+{
+    entry >> 48 < (1 << n)
+}
+
+// Whether it is one of which p is a least point: p has none of the lead bits.
+pub fn taken(n: usize, p: u64, entry: u64) -> bool
+    requires { ⌜ n ≤ maxListed ⌝ }
+    ensures { λ r. ⌜ r ≡ takesPoint n p entry ⌝ }
+{
+    fits(n, entry) && p & (entry >> 48) == 0
+}

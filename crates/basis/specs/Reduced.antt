@@ -3,7 +3,7 @@ use mathlib.Core.Path.{_≡_}
 use mathlib.Core.Bool.{false}
 use mathlib.Core.Logic.{_↔_}
 use mathlib.Core.List.{List}
-use Prim.Native.Nat.{ℕ, _^_, _<_}
+use Prim.Native.Nat.{ℕ, _^_, _≤_, _<_}
 use lib.ListN.{length, take}
 use Rattle.gf2.specs.Limits.{maxVariables}
 use Rattle.gf2.specs.Finite.{Mem}
@@ -26,6 +26,12 @@ pub record IsBasis (b : Basis) : Type 0 where
   pub reduced : Reduced (vectorsOf b)
   pub below : (c : ℕ) → Mem c (vectorsOf b) → c < 2 ^ maxVariables
   pub packed : b ≡ basisOf (vectorsOf b)
+
+-- A basis of vectors of n variables.
+pub record Spans (n : ℕ) (b : Basis) : Type 0 where
+  pub few : n ≤ maxVariables
+  pub basis : IsBasis b
+  pub below : (c : ℕ) → Mem c (vectorsOf b) → c < 2 ^ n
 
 -- A basis that was built: it is the value of the list bs, and its span is exactly the set P.
 pub record Built (b : Basis) (bs : List ℕ) (P : ℕ → Type 0) : Type 0 where

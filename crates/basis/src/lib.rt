@@ -8,7 +8,7 @@ ghost use lib.ListN.{length};
 ghost use Rattle.gf2.specs.Limits.{maxVariables};
 ghost use Rattle.gf2.specs.Bits.{bit};
 ghost use Rattle.gf2.specs.Span.{Span};
-ghost use Rattle.gf2.specs.Basis.{reduce, join, insert, units, leadMask, placesAt, canonicalPlaces, noncanonicalPlaces, variablesAt};
+ghost use Rattle.gf2.specs.Basis.{reduce, join, insert, units, leadMask, placesAt, canonicalPlaces, variablesAt};
 ghost use Rattle.basis.specs.Short.{listed, short};
 ghost use Rattle.basis.specs.Reduced.{vectorsOf, basisOf, IsBasis, Built, Joins};
 use gf2::MAX_VARIABLES;
@@ -186,19 +186,7 @@ impl Basis {
     {
         variables_of(self.leads(), n)
     }
-
-    // The noncanonical variables of n by index, rising.
-    pub fn noncanonical(self, n: usize) -> ShortList
-        requires { ⌜ IsBasis self ⌝ }
-        requires { ⌜ n ≤ maxVariables ⌝ }
-        ensures { λ r. ⌜ r ≡ short (variablesAt n (noncanonicalPlaces n (vectorsOf self))) ⌝ }
-    {
-        variables_of(self.leads() ^ ALL_PLACES, n)
-    }
 }
-
-// Every place of a 16-bit number.
-const ALL_PLACES: u16 = 0xFFFF;
 
 // The variables of n whose bit is set in the mask, by index, rising. x1 is the highest bit.
 pub fn variables_of(mask: u16, n: usize) -> ShortList

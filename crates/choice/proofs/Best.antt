@@ -4,12 +4,12 @@ use mathlib.Core.Path.{_≡_, refl, sym, ap, _∙_, subst}
 use mathlib.Core.Bool.{Bool, true, false, not, cond, _&&_}
 use mathlib.Core.Logic.{inl, inr}
 use mathlib.Core.List.{List, [], _∷_, map}
-use Prim.Native.Nat.{ℕ, _+_, _-_, _^_, _≤_, _<_}
+use Prim.Native.Nat.{ℕ, _+_, _-_, _≤_, _<_}
 use native.Mathlib.Decide.{ℕ-discrete}
 use native.Mathlib.Omega.{arith}
 use lib.Dec.{leb}
 use lib.ListN.{getD}
-use borrow.Author.Tests.{le-ltb, leb-true, leb-false}
+use borrow.Author.Tests.{leb-true, leb-false}
 use Rattle.gf2.specs.Finite.{Mem, Ordered}
 use Rattle.gf2.proofs.Logic.{clash, and-false, and-l, and-r}
 use Rattle.gf2.proofs.Finite.{map-mem, mem-map}
@@ -23,11 +23,11 @@ use Rattle.cubes.proofs.Lists.{keep-mem, mem-keep, ordered-keep}
 use Rattle.cubes.proofs.Cubes.{vectors-below}
 use Rattle.cubes.proofs.Candidates.{basis-is, lexicographic-not, bases-ordered, vectors-rising, degree-sound, degree-complete, degree-ordered}
 use Rattle.bases.specs.Entries.{entries}
-use Rattle.bases.specs.Bases.{start, stop, entriesOf, vectorsOf, maskOf, fitsEntry}
+use Rattle.bases.specs.Bases.{start, stop, entriesOf, vectorsOf, fitsEntry}
 use Rattle.bases.proofs.Table.{entries-bases, entries-fewer}
-use Rattle.masks.specs.Entry.{candidateAt, EntryAt}
-use Rattle.masks.proofs.Bounds.{bounds, entries-count, entry-at, entry-mem}
-use Rattle.masks.proofs.PrimeTest.{vectors-length, entry-candidate}
+use Rattle.bases.specs.Entry.{candidateAt, EntryAt}
+use Rattle.bases.proofs.Bounds.{bounds, entries-count, entry-at, entry-mem}
+use Rattle.bases.proofs.Entry.{vectors-length, entry-candidate}
 use Rattle.cover.specs.Choice.{firstHolding}
 use Rattle.choice.specs.declared.Found.{Found}
 use Rattle.choice.specs.Search.{Search, foundOf, FoundAt, leastPoint, stays, betterOf}
@@ -37,9 +37,9 @@ use Rattle.choice.proofs.First.{first-none, first-least}
 -- ---- one entry
 
 module _ (prime : Candidate → Bool) (m d x e : ℕ) (best : Found) where
-  pub better-wide : 2 ^ m ≤ maskOf e → best ≡ betterOf prime m d x e best
+  pub better-wide : fitsEntry m e ≡ false → best ≡ betterOf prime m d x e best
   unfolding betterOf
-  better-wide h = rw (le-ltb (maskOf e) (2 ^ m) h)
+  better-wide h = rw h
 
   -- p is the least point of the coset of x.
   module _ (p : ℕ) (q : p ≡ leastPoint d x e) where

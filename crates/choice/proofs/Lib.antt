@@ -3,3 +3,4 @@ pub mod Reductions
 pub mod First
 pub mod Best
 pub mod Taking
+pub mod Products

@@ -1,8 +1,7 @@
 -- Laws of the least point of a coset: found vector by vector of an entry, it is the least point of the only candidate of the entry's space that
 -- holds the point. Read next: First.
-use mathlib.Core.Path.{_≡_, refl, sym, ap, _∙_, subst}
+use mathlib.Core.Path.{_≡_, sym, ap, _∙_}
 use mathlib.Core.Bool.{true}
-use mathlib.Core.Logic.{inl, inr}
 use Prim.Native.Nat.{ℕ, _-_, _/_, _%_, _≤_, _<_}
 use native.Mathlib.Omega.{arith}
 use lib.Dec.{eqb}
@@ -17,17 +16,11 @@ use Rattle.cubes.proofs.Cubes.{spans-is, least-reduce}
 use Rattle.bases.specs.Bases.{entriesOf, vectorsOf, fitsEntry, takesPoint}
 use Rattle.bases.proofs.Masks.{mask-least}
 use Rattle.bases.proofs.Table.{entry-mask, entry-reduced}
-use Rattle.masks.specs.Entry.{candidateAt, EntryAt}
-use Rattle.masks.proofs.Folds.{vectors-step}
+use Rattle.bases.specs.Entry.{candidateAt, EntryAt}
+use Rattle.bases.proofs.Entry.{vectors-step}
 use Rattle.choice.specs.Search.{Positive, Search, leastPoint}
 
 -- ---- the vectors of an entry one after the other
-
-pub positive-step : (l e : ℕ) → 0 < l → Positive (vectorsOf l e) → (0 < e % 256) × Positive (vectorsOf (l - 1) (e / 256))
-positive-step l e h f = (
-  f (e % 256) (subst (Mem (e % 256)) (sym (vectors-step l e h)) (inl refl)),
-  λ c m. f c (subst (Mem c) (sym (vectors-step l e h)) (inr m)),
-)
 
 pub reduce-on : (l e x : ℕ) → 0 < l → reduce (vectorsOf (l - 1) (e / 256)) (clear (e % 256) x) ≡ reduce (vectorsOf l e) x
 unfolding reduce

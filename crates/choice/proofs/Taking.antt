@@ -24,15 +24,15 @@ use Rattle.cubes.specs.Cubes.{Candidate, pointsOf}
 use Rattle.cubes.specs.Candidates.{candidates}
 use Rattle.cubes.specs.Primes.{isPrime}
 use Rattle.masks.specs.Points.{MaskOf, primeBy}
-use Rattle.masks.specs.Entry.{candidateAt, EntryAt}
-use Rattle.masks.proofs.PrimeTest.{entry-candidate}
+use Rattle.bases.specs.Entry.{candidateAt, EntryAt}
+use Rattle.bases.proofs.Entry.{entry-candidate}
 use Rattle.cover.specs.Choice.{primesOf, covered, firstHolding, takenThrough, chosen}
 use Rattle.cover.proofs.Primes.{points-coset}
 use Rattle.cover.proofs.Steps.{through-covered, through-none, through-taken, covered-next}
 use Rattle.choice.specs.declared.Found.{Found}
 use Rattle.choice.specs.declared.Choice.{Choice}
 use Rattle.choice.specs.Search.{Search, foundOf}
-use Rattle.choice.specs.Chosen.{chosenBy, added, Marks, Chose}
+use Rattle.choice.specs.Chosen.{maxChosen, chosenBy, added, Marks, Chose}
 
 -- ---- what is found, as a list
 
@@ -125,11 +125,11 @@ primes-by m on mask h = ap₂ (λ (f g : ℕ → Bool). keep (isPrime m f g) (ca
 pub search-at : (m : ℕ) (on : List ℕ) (mask x : ℕ) → m ≤ 6 → outside m on ≡ false → MaskOf on mask → x < 2 ^ m → Search m mask m x
 search-at m on mask x h o w l = record { few = h; inside = λ y t. inside m on o y (holds-mem on y .0 (sym (w y) ∙ t)); short = omega arith; point = l }
 
--- The lists of the choice have a place for each of 64 primes.
+-- The lists of the choice have a place for each prime.
 pub record Long (r : Choice) : Type 0 where
-  pub degrees : length (r .degrees) ≡ 64
-  pub points : length (r .points) ≡ 64
-  pub entries : length (r .entries) ≡ 64
+  pub degrees : length (r .degrees) ≡ maxChosen
+  pub points : length (r .points) ≡ maxChosen
+  pub entries : length (r .entries) ≡ maxChosen
 
 -- The points before place i have been gone through: the choice so far goes on to what is chosen, and the flags set are those of the points covered.
 pub record TakenTo (m : ℕ) (on : List ℕ) (i : ℕ) (flags : List Bool) (r : Choice) : Type 0 where
@@ -140,7 +140,7 @@ pub record TakenTo (m : ℕ) (on : List ℕ) (i : ℕ) (flags : List Bool) (r : 
   pub flagged : (y : ℕ) → y < maxPoints → getD flags y false ≡ covered (chosenBy r (r .count)) y
   pub entry : (k : ℕ) → k < r .count → EntryAt m (getD (r .degrees) k 0) (getD (r .points) k 0) (getD (r .entries) k 0)
 
-pub taken-start : (m : ℕ) (on : List ℕ) → TakenTo m on 0 (replicate maxPoints false) (record { count = 0; degrees = replicate 64 0; points = replicate 64 0; entries = replicate 64 0 })
+pub taken-start : (m : ℕ) (on : List ℕ) → TakenTo m on 0 (replicate maxPoints false) (record { count = 0; degrees = replicate maxChosen 0; points = replicate maxChosen 0; entries = replicate maxChosen 0 })
 unfolding chosen covered chosenBy
 taken-start m on = record {
   upto = omega arith;
@@ -176,7 +176,7 @@ module _ (m : ℕ) (on : List ℕ) (i : ℕ) (flags : List Bool) (r : Choice) (w
     pub taken-nothing : f .any ≡ false → TakenTo m on (i + 1) flags r
     taken-nothing a = unchanged (through-none (primesOf m on) so-far (getD on i 0) (drop (i + 1) on) t (sym q ∙ found-none f a))
 
-    pub taken-one : f .any ≡ true → EntryAt m (f .degree) (f .point) (f .entry) → r .count < 64
+    pub taken-one : f .any ≡ true → EntryAt m (f .degree) (f .point) (f .entry) → r .count < maxChosen
         → (u : List Bool) → Marks (candidateAt (f .degree) (f .point) (f .entry)) flags u → TakenTo m on (i + 1) u (added r (f .degree) (f .point) (f .entry))
     taken-one a k room u marks =
         let hd : r .count < length (r .degrees) = omega (arith, w .long .degrees) in
@@ -198,15 +198,13 @@ module _ (m : ℕ) (on : List ℕ) (i : ℕ) (flags : List Bool) (r : Choice) (w
           entry = added-entry r (f .degree) (f .point) (f .entry) hd hp he m (w .entry) k;
         }
 
--- A function of m variables has at most 2 ^ m on points, so that 64 places are enough.
-pub few-points : (m : ℕ) (on : List ℕ) → m ≤ 6 → outside m on ≡ false → unordered on ≡ false → length on ≤ 64
+-- A function of m variables has at most 2 ^ m on points, so that the places are enough.
+pub few-points : (m : ℕ) (on : List ℕ) → m ≤ 6 → outside m on ≡ false → unordered on ≡ false → length on ≤ maxChosen
 few-points m on h o u = omega (arith, rising-length on (2 ^ m) (rising on u) (inside m on o), pow-mono h)
 
-pub taken-end : (m : ℕ) (on : List ℕ) (i : ℕ) (flags : List Bool) (r : Choice) → TakenTo m on i flags r → length on ≤ i → length on ≤ 64 → Chose m on r
+pub taken-end : (m : ℕ) (on : List ℕ) (i : ℕ) (flags : List Bool) (r : Choice) → TakenTo m on i flags r → length on ≤ i → length on ≤ maxChosen → Chose m on r
 unfolding takenThrough
 taken-end m on i flags r w h l = record {
-  few = omega (arith, w .count, w .upto);
+  candidates = record { few = omega (arith, w .count, w .upto); entry = w .entry };
   same = ap (takenThrough (primesOf m on) (chosenBy r (r .count))) (sym (drop-of-length-le on {i = i} h)) ∙ w .same;
-  short = λ k j. w .entry k j .short;
-  entry = w .entry;
 }

@@ -1,14 +1,20 @@
 -- The primes chosen, as a value (document 01, "The written form"). That they are `chosen` of crate `cover` is what `Chose` says.
 use mathlib.Core.Path.{_≡_}
 use mathlib.Core.Bool.{Bool, false, _||_}
-use mathlib.Core.List.{List, [], _∷_, _++_}
+use mathlib.Core.List.{List, [], _∷_, _++_, map}
 use Prim.Native.Nat.{ℕ, zero, suc, _+_, _≤_, _<_}
 use lib.ListN.{getD, set}
 use Rattle.table.specs.Flags.{maxPoints}
+use Rattle.product.specs.Product.{Factor}
 use Rattle.cubes.specs.Cubes.{Candidate, pointsOf}
-use Rattle.masks.specs.Entry.{candidateAt, EntryAt}
+use Rattle.bases.specs.Entry.{candidateAt, EntryAt}
 use Rattle.cover.specs.Choice.{chosen}
+use Rattle.cover.specs.WrittenForm.{productBy}
 use Rattle.choice.specs.declared.Choice.{Choice}
+
+-- The most primes that are chosen: as many as there are points of six variables.
+abbrev pub maxChosen : ℕ
+maxChosen = 64
 
 -- The prime at place i of the choice: its degree, its least point and its entry of the table of bases.
 abbrev pub chosenAt : Choice → ℕ → Candidate
@@ -18,6 +24,10 @@ chosenAt r i = candidateAt (getD (r .degrees) i 0) (getD (r .points) i 0) (getD 
 unfoldable pub chosenBy : Choice → ℕ → List Candidate
 chosenBy r zero = []
 chosenBy r (suc k) = chosenBy r k ++ (chosenAt r k ∷ [])
+
+-- The products of the first k primes, with the equations of the y's put in.
+unfoldable pub productsBy : List ℕ → ℕ → Choice → ℕ → List (List Factor)
+productsBy es m r k = map (productBy es m) (chosenBy r k)
 
 -- The choice with one prime more, put behind the others.
 abbrev pub added : Choice → ℕ → ℕ → ℕ → Choice
@@ -32,10 +42,12 @@ added r degree point entry = record {
 abbrev pub Marks : Candidate → List Bool → List Bool → Type 0
 Marks c flags r = (y : ℕ) → y < maxPoints → getD r y false ≡ getD flags y false || pointsOf c y
 
--- The value holds the primes chosen for the complete function of m variables with these on points: no more than fit, the same in the same
--- order, each an entry of the table of bases with a least point of it.
-pub record Chose (m : ℕ) (on : List ℕ) (r : Choice) : Type 0 where
-  pub few : r .count ≤ 64
-  pub same : chosenBy r (r .count) ≡ chosen m on
-  pub short : (i : ℕ) → i < r .count → getD (r .degrees) i 0 ≤ m
+-- A choice of candidates of m variables: no more than fit, each an entry of the table of bases with a least point of it.
+pub record Candidates (m : ℕ) (r : Choice) : Type 0 where
+  pub few : r .count ≤ maxChosen
   pub entry : (i : ℕ) → i < r .count → EntryAt m (getD (r .degrees) i 0) (getD (r .points) i 0) (getD (r .entries) i 0)
+
+-- The value holds the primes chosen for the complete function of m variables with these on points, in the same order.
+pub record Chose (m : ℕ) (on : List ℕ) (r : Choice) : Type 0 where
+  pub candidates : Candidates m r
+  pub same : chosenBy r (r .count) ≡ chosen m on

@@ -10,7 +10,7 @@ use Rattle.cubes.specs.Cubes.{Candidate}
 use Rattle.cubes.specs.Records.{maxListed}
 use Rattle.bases.specs.Bases.{vectorsOf, fitsEntry}
 use Rattle.masks.specs.Points.{OfPoints}
-use Rattle.masks.specs.Entry.{candidateAt, EntryAt}
+use Rattle.bases.specs.Entry.{candidateAt, EntryAt}
 use Rattle.choice.specs.declared.Found.{Found}
 
 -- No vector is 0.

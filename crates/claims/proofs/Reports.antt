@@ -1,7 +1,7 @@
 -- What the public calls report of an accepted table, with rooms that are long enough, is what the definitions say. Read next: Demand2.
 use mathlib.Core.Path.{_≡_, refl, sym, ap, ap₂, _∙_}
 use mathlib.Core.Bool.{false}
-use mathlib.Core.List.{List, [], _∷_}
+use mathlib.Core.List.{List, []}
 use Prim.Native.Nat.{ℕ, _^_, _≤_}
 use native.Mathlib.Omega.{arith}
 use lib.ListN.{length, take, drop}
@@ -12,12 +12,10 @@ use Rattle.gf2.proofs.Finite.{select-length}
 use Rattle.basis.specs.Short.{listed}
 use Rattle.basis.specs.Reduced.{vectorsOf}
 use Rattle.basis.proofs.Values.{vectors-back, listed-back}
-use Rattle.table.specs.Refusal.{test, firstFault, sizeFault}
 use Rattle.table.specs.Decision.{front}
-use Rattle.table.specs.Table.{tableTests, tableFault, Accepted}
-use Rattle.table.proofs.Table.{table-numbered, no-refusal}
-use Rattle.table.proofs.Refusal.{numbered}
-use Rattle.table.proofs.Decide.{decide-accepted, table-passed, call-accepted}
+use Rattle.table.specs.Table.{tableFault, Accepted}
+use Rattle.table.proofs.Table.{no-refusal}
+use Rattle.table.proofs.Decide.{decide-accepted}
 use Rattle.space.specs.Closure.{linearSpace}
 use Rattle.space.specs.Completion.{completed, completedPoints}
 use Rattle.space.specs.Restriction.{equations as equationsOf}
@@ -27,14 +25,16 @@ use Rattle.space.proofs.Restriction.{restriction-length, linear-equations}
 use Rattle.form.specs.declared.FormPoints.{FormPoints}
 use Rattle.form.specs.declared.FormRewrite.{FormRewrite}
 use Rattle.form.specs.Reading.{pointsOf, rewritten}
-use Rattle.form.proofs.Answering.{points-accepted, rewrite-accepted}
+use Rattle.form.proofs.Answering.{points-ways, rewrite-ways}
 use Rattle.cover.specs.WrittenForm.{formSizeFault}
 use Rattle.writing.specs.declared.FormWritten.{FormWritten}
-use Rattle.writing.specs.Writing.{formBytes, formTests, writeAccepted, writeRefused, writeAnswer, writeAfter}
+use Rattle.writing.specs.Writing.{formBytes, writeAccepted, writeAnswer, writeAfter}
+use Rattle.writing.proofs.Answers.{none-first, write-ways}
 use Rattle.glospruma.specs.declared.LinearSpace.{LinearSpace}
 use Rattle.glospruma.specs.declared.Completion.{Completion}
 use Rattle.glospruma.specs.declared.Analysis.{Analysis}
-use Rattle.glospruma.specs.Spaces.{linearSpaceTests, linearSpaceAccepted, linearSpaceRefused, linearSpaceAnswer, completedSpace, completedRestriction, completeAccepted, completeRefused, completeAnswer, completeRoom, analyseAccepted, analyseRefused, analyseAnswer, analyseRoom}
+use Rattle.glospruma.proofs.Completions.{complete-ways, analyse-ways}
+use Rattle.glospruma.specs.Spaces.{linearSpaceTests, linearSpaceAccepted, linearSpaceRefused, linearSpaceAnswer, completedSpace, completedRestriction, completeAccepted, completeAnswer, completeRoom, analyseAccepted, analyseAnswer, analyseRoom}
 use Rattle.claims.specs.Demand2.{Reported, reported, formRoom}
 use Rattle.claims.proofs.FormBytes.{written-fits, bytes-accepted, bytes-points, bytes-again}
 
@@ -63,14 +63,10 @@ module _ (n : ℕ) (on free room bytes : List ℕ) (a : Accepted n on free) (eno
   few-points = select-length (completed n on free) (2 ^ n)
 
   completing : (completeAccepted n on free ≡ completeAnswer n on free room) × (front (completedPoints n on free) room ≡ completeRoom n on free room)
-  unfolding tableFault
-  completing = call-accepted (tableTests n on free) (completedPoints n on free) room (completeAccepted n on free) completeRefused (table-numbered n on free)
-      (no-refusal n on free a) (omega (arith, few-points))
+  completing = complete-ways n on free room .whole (no-refusal n on free a) (omega (arith, few-points)) _ _ refl refl
 
   analysing : (analyseAccepted n on free ≡ analyseAnswer n on free room) × (front (completedRestriction n on free) room ≡ analyseRoom n on free room)
-  unfolding tableFault
-  analysing = call-accepted (tableTests n on free) (completedRestriction n on free) room (analyseAccepted n on free) analyseRefused (table-numbered n on free)
-      (no-refusal n on free a) (omega (arith, restriction-length n (completedSpace n on free) (completed n on free), pow-mono fewer))
+  analysing = analyse-ways n on free room .whole (no-refusal n on free a) (omega (arith, restriction-length n (completedSpace n on free) (completed n on free), pow-mono fewer)) _ _ refl refl
     where
       fewer : length (equationsOf n (completedSpace n on free)) ≤ n
       fewer = omega (arith, linear-equations n (completed n on free))
@@ -99,10 +95,7 @@ module _ (n : ℕ) (on free room bytes : List ℕ) (a : Accepted n on free) (eno
       }
 
   writing : formSizeFault n on free ≡ false → (writeAccepted n on free ≡ writeAnswer n on free bytes) × (front (formBytes n on free) bytes ≡ writeAfter n on free bytes)
-  unfolding tableFault holds tableTests firstFault writeAnswer writeAfter
-  writing small = call-accepted (formTests n on free) (formBytes n on free) bytes (writeAccepted n on free) writeRefused (numbered (formTests n on free) refl)
-      (table-passed (tableTests n on free) (test sizeFault (formSizeFault n on free) ∷ []) (table-numbered n on free) (no-refusal n on free a) ∙ rw small)
-      (omega (arith, written-fits n on free a small))
+  writing small = write-ways n on free bytes .whole (none-first n on free (no-refusal n on free a) small) (omega (arith, written-fits n on free a small)) _ _ refl refl
 
   abbrev form : List ℕ
   form = take (writeAnswer n on free bytes .length) (writeAfter n on free bytes)
@@ -123,10 +116,10 @@ module _ (n : ℕ) (on free room bytes : List ℕ) (a : Accepted n on free) (eno
     form = written;
     back = λ small.
         handed (λ (x : FormPoints). x .count) (pointsOf form) room refl
-        (points-accepted form room (bytes-accepted n on free a small form (written small))
-        (omega (arith, ap length (bytes-points n on free a small form (written small)), few-points)));
+        (points-ways form room .whole (bytes-accepted n on free a small form (written small))
+        (omega (arith, ap length (bytes-points n on free a small form (written small)), few-points)) _ _ refl refl);
     again = λ small.
         handed (λ (x : FormRewrite). x .length) (rewritten form) bytes refl
-        (rewrite-accepted form bytes (bytes-accepted n on free a small form (written small))
-        (omega (arith, ap length (bytes-again n on free a small form (written small)), ap length (written small), written-fits n on free a small)));
+        (rewrite-ways form bytes .whole (bytes-accepted n on free a small form (written small))
+        (omega (arith, ap length (bytes-again n on free a small form (written small)), ap length (written small), written-fits n on free a small)) _ _ refl refl);
   }

@@ -1,7 +1,7 @@
 -- Laws of specs.Choice: the search for the first prime that holds a point finds one, the primes chosen hold exactly the on points, and there are
 -- no more of them than on points. Read next: Restriction.
 use mathlib.Core.Path.{_≡_, refl, sym, ap, _∙_, subst}
-use mathlib.Core.Bool.{Bool, true, false, cond, _||_}
+use mathlib.Core.Bool.{Bool, true, false, cond, _||_, or-assoc}
 use mathlib.Core.Logic.{_⊎_, inl, inr, _≢_, _↔_}
 use mathlib.Core.List.{List, [], _∷_, _++_, flatMap}
 use Prim.Native.Nat.{ℕ, suc, _+_, _^_, _≤_, _<_}
@@ -63,10 +63,6 @@ covered-is (c ∷ l) x = (
     | inr i ↦ or-r (pointsOf c x) (covered l x) (covered-is l x .1 (h .0, i, h .2))
   ],
 )
-
-or-assoc : (a b c : Bool) → (a || b) || c ≡ a || (b || c)
-or-assoc true b c = refl
-or-assoc false b c = refl
 
 pub covered-append : (l m : List Candidate) (x : ℕ) → covered (l ++ m) x ≡ covered l x || covered m x
 unfolding covered

@@ -1,6 +1,6 @@
 -- The definitions as a loop meets them: one point more gone through, one prime more taken, one equation more put in. Read next: Examples.
-use mathlib.Core.Path.{_≡_, refl, ap, _∙_}
-use mathlib.Core.Bool.{Bool, true, false, cond, _||_}
+use mathlib.Core.Path.{_≡_, ap, _∙_}
+use mathlib.Core.Bool.{true, false, cond, _||_, or-false}
 use mathlib.Core.List.{List, [], _∷_, _++_, append-nil}
 use Prim.Native.Nat.{ℕ, zero, suc, _-_, _<_}
 use native.Mathlib.Nat.{le-of-suc-le-suc}
@@ -31,10 +31,6 @@ unfolding takenThrough takenFor
 through-taken primes taken x xs c e q = rw (e, q)
 
 -- Then the points that are covered are those that were, and those of the prime taken.
-or-false : (a : Bool) → a || false ≡ a
-or-false true = refl
-or-false false = refl
-
 pub covered-next : (taken : List Candidate) (c : Candidate) (y : ℕ) → covered (taken ++ (c ∷ [])) y ≡ covered taken y || pointsOf c y
 unfolding covered
 covered-next taken c y = covered-append taken (c ∷ []) y ∙ ap (λ t. covered taken y || t) (or-false (pointsOf c y))

@@ -11,7 +11,7 @@ use native.Mathlib.Omega.{arith}
 use lib.ListN.{length, length-map}
 use lib.Pow.{pow-mono, pow-pos}
 use borrow.Author.Tests.{ltb-true, lt-ltb, ltb-false}
-use Rattle.gf2.specs.Finite.{Mem, holds, Rising, In}
+use Rattle.gf2.specs.Finite.{Mem, Rising, In}
 use Rattle.gf2.specs.Span.{Span}
 use Rattle.gf2.specs.Basis.{Reduced, placesAt, noncanonicalPlaces}
 use Rattle.gf2.proofs.Finite.{map-mem}
@@ -21,7 +21,6 @@ use Rattle.space.specs.Closure.{closed, linearSpace, degree}
 use Rattle.space.specs.Completion.{completed}
 use Rattle.space.specs.Restriction.{equations, values, restriction}
 use Rattle.space.proofs.Closure.{linear-reduced, linear-span}
-use Rattle.space.proofs.Completion.{kept-on, kept-off}
 use Rattle.space.proofs.Restriction.{equations-length, restriction-through, restriction-rising, restriction-below, restriction-length, restriction-full}
 use Rattle.product.specs.Product.{Factor, productAt, someProductAt, AllFit, Canonical}
 use Rattle.product.proofs.Unique.{canonical-unique}
@@ -36,20 +35,6 @@ use Rattle.cover.proofs.CanonicalProduct.{product-points, product-canon
 use Rattle.cover.proofs.Substitution.{substitute-product, substitute-canonical, substitute-fits}
 use Rattle.cover.proofs.Choice.{primes-are, chosen-prime, chosen-points, chosen-length, chosen-fewer, chosen-none, chosen-origin}
 use Rattle.cover.proofs.Restriction.{values-below, restriction-fewer}
-
--- ---- the products in the y's
-
-canonical-products : (m : ℕ) (cs : List Candidate) → ((c : Candidate) → Mem c cs → IsCandidate m c)
-    → (y : ℕ) → y < 2 ^ m → someProductAt (map (canonicalProduct m) cs) y ≡ covered cs y
-unfolding someProductAt covered
-canonical-products m [] k y l = refl
-canonical-products m (c ∷ cs) k y l = ap₂ _||_ (product-points m c (k c (inl refl)) y l) (canonical-products m cs (λ d i. k d (inr i)) y l)
-
--- The products of the primes chosen for a complete function are true exactly at its on points.
-pub chosen-products : (m : ℕ) (on : List ℕ) → ((y : ℕ) → Mem y on → y < 2 ^ m) → (y : ℕ) → y < 2 ^ m → someProductAt (map (canonicalProduct m) (chosen m on)) y ≡ holds on y
-chosen-products m on h y l =
-    canonical-products m (chosen m on) (λ c i. primes-are m on c (chosen-prime m on c i) .0) y l
-    ∙ chosen-points m on h y
 
 -- ---- with the equations put in, for a reduced basis of vectors of n variables
 
@@ -228,13 +213,6 @@ module _ (n : ℕ) (on free : List ℕ) where
   pub table-form-at : (w : ℕ) → w < 2 ^ n → someProductAt (writtenForm n on free) w ≡ completed n on free w
   unfolding writtenForm
   table-form-at = form-at n (completed n on free) (linearSpace n (completed n on free)) (linear-reduced n (completed n on free)) (λ x. linear-span n (completed n on free) x .0)
-
-  -- So it is true at the on points of the table, and false at the off points.
-  pub table-form-on : (w : ℕ) → w < 2 ^ n → Mem w on → someProductAt (writtenForm n on free) w ≡ true
-  table-form-on w l i = table-form-at w l ∙ kept-on n on free w i
-
-  pub table-form-off : (w : ℕ) → w < 2 ^ n → holds on w ≡ false → holds free w ≡ false → someProductAt (writtenForm n on free) w ≡ false
-  table-form-off w l e g = table-form-at w l ∙ kept-off n on free w e g
 
   pub table-form-products : (p : List Factor) → Mem p (writtenForm n on free) → Canonical p × AllFit n p
   unfolding writtenForm

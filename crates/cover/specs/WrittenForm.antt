@@ -18,9 +18,13 @@ use Rattle.cover.specs.Choice.{chosen}
 abbrev pub restrictedVariables : ℕ → List ℕ → ℕ
 restrictedVariables n bs = n - length bs
 
--- The product that is written for a prime of the restriction: its canonical product in the y's, with the reduction equations put in for them.
+-- The product of a candidate of m variables y1 .. ym: its canonical product, with the equations of y1, y2, .. put in for them.
+abbrev pub productBy : List ℕ → ℕ → Candidate → List Factor
+productBy es m c = substituteProduct es (canonicalProduct m c)
+
+-- The product that is written for a prime of the restriction: the reduction equations are put in.
 unfoldable pub writtenProduct : ℕ → List ℕ → Candidate → List Factor
-writtenProduct n bs c = substituteProduct (equations n bs) (canonicalProduct (restrictedVariables n bs) c)
+writtenProduct n bs c = productBy (equations n bs) (restrictedVariables n bs) c
 
 -- The products of the form of a complete function f of n variables whose linear space has the basis bs: those of the primes chosen for its
 -- restriction, in the order taken.

@@ -118,33 +118,31 @@ record Step (t : Table) (p : ℕ) (c : Call) (q : ℕ) : Type 0 where
   passed : p + answer c .passed ≡ q
   moves : able c ≡ true → p < endOf t → p < q
 
-taken : (c : Call) → accepted c ≡ true → Step (c .table) (c .place) c (answer c .next)
+taken : (c : Call) → accepted c ≡ true → Step (c .table) (c .place) c (c .place + listing c .passed)
 taken c e = record {
-  low = omega (arith, o .next);
-  high = omega (arith, o .next, o .passed, o .rule .along, accepted-place c e, length-drop (c .place) (candidates (c .table .variables)));
+  low = omega arith;
+  high = omega (arith, o .rule .along, accepted-place c e, length-drop (c .place) (candidates (c .table .variables)));
   handed = ap (λ x. recordsOf (primesBehind (c .table) (c .place)) ++ x) (o .handed)
       ∙ sym (records-append (primesBehind (c .table) (c .place)) (listing c .primes)) ∙ ap recordsOf (sym grown);
   number = ap (λ (z : ℕ). length (primesBehind (c .table) (c .place)) + z) (o .records)
       ∙ sym (length-append (primesBehind (c .table) (c .place)) (listing c .primes)) ∙ ap length (sym grown);
-  passed = sym (o .next);
-  moves = able-moves c;
+  passed = ap (λ (z : ℕ). c .place + z) (o .passed);
+  moves = λ a h. omega (arith, able-moves c a h, o .next, o .passed);
 }
   where
     o : Obeyed c
     o = call-obeyed c e
 
-    grown : primesBehind (c .table) (answer c .next) ≡ primesBehind (c .table) (c .place) ++ listing c .primes
-    grown =
-        ap (primesBehind (c .table)) (o .next ∙ ap (λ (z : ℕ). c .place + z) (o .passed)) ∙ primes-add (c .table) (c .place) (listing c .passed)
-        ∙ ap (λ x. primesBehind (c .table) (c .place) ++ x) (sym (o .rule .found))
+    grown : primesBehind (c .table) (c .place + listing c .passed) ≡ primesBehind (c .table) (c .place) ++ listing c .primes
+    grown = primes-add (c .table) (c .place) (listing c .passed) ∙ ap (λ x. primesBehind (c .table) (c .place) ++ x) (sym (o .rule .found))
 
 step : (t : Table) (p : ℕ) (c : Call) → p ≤ endOf t → (accepted c ≡ true → (c .table ≡ t) × (c .place ≡ p)) → Step t p c (advance p c)
 step t p c h u = go (accepted c) refl
   where
-    go : (s : Bool) → accepted c ≡ s → Step t p c (cond s (answer c .next) p)
+    go : (s : Bool) → accepted c ≡ s → Step t p c (cond s (p + listing c .passed) p)
     go true e =
         let k = u e in
-        subst (λ (z : ℕ). Step t z c (answer c .next)) (k .1) (subst (λ (s : Table). Step s (c .place) c (answer c .next)) (k .0) (taken c e))
+        subst (λ (z : ℕ). Step t z c (z + listing c .passed)) (k .1) (subst (λ (s : Table). Step s (c .place) c (c .place + listing c .passed)) (k .0) (taken c e))
     go false e =
         let r = call-refused c e in record {
           low = omega arith;
@@ -199,13 +197,16 @@ run t (c ∷ cs) p h u =
 reached-refused : (p : ℕ) (cs : List Call) → ((d : Call) → Mem d cs → accepted d ≡ false) → reached p cs ≡ p
 unfolding reached
 reached-refused p [] h = refl
-reached-refused p (c ∷ cs) h = ap (λ (b : Bool). reached (cond b (answer c .next) p) cs) (h c (inl refl)) ∙ reached-refused p cs (λ d m. h d (inr m))
+reached-refused p (c ∷ cs) h = ap (λ (b : Bool). reached (cond b (p + listing c .passed) p) cs) (h c (inl refl)) ∙ reached-refused p cs (λ d m. h d (inr m))
 
-reached-last : (p : ℕ) (bs : List Call) (c : Call) (cs : List Call) → accepted c ≡ true → ((d : Call) → Mem d cs → accepted d ≡ false)
-    → reached p (bs ++ (c ∷ cs)) ≡ answer c .next
+reached-last : (t : Table) (p : ℕ) (bs : List Call) (c : Call) (cs : List Call) → Consecutive t p (bs ++ (c ∷ cs)) → accepted c ≡ true
+    → ((d : Call) → Mem d cs → accepted d ≡ false) → reached p (bs ++ (c ∷ cs)) ≡ answer c .next
 unfolding reached
-reached-last p [] c cs e h = ap (λ (b : Bool). reached (cond b (answer c .next) p) cs) e ∙ reached-refused (answer c .next) cs h
-reached-last p (b ∷ bs) c cs e h = reached-last (advance p b) bs c cs e h
+reached-last t p [] c cs u e h =
+    let o = call-obeyed c e in
+    let k = u .0 e in
+    ap (λ (b : Bool). reached (cond b (p + listing c .passed) p) cs) e ∙ reached-refused (p + listing c .passed) cs h ∙ omega (arith, k .1, o .next, o .passed)
+reached-last t p (b ∷ bs) c cs u e h = reached-last t (advance p b) bs c cs (u .1) e h
 
 consecutive-table : (t : Table) (p : ℕ) (cs : List Call) → Consecutive t p cs → (c : Call) → Mem c cs → accepted c ≡ true → c .table ≡ t
 consecutive-table t p (b ∷ cs) u c (inl e) a = ap (λ (z : Call). z .table) e ∙ u .0 (subst (λ (z : Call). accepted z ≡ true) e a) .0
@@ -223,7 +224,7 @@ demand3 t calls u =
       obeyed = λ c m. call-obeyed c;
       refused = λ c m. call-refused c;
       within = i .high;
-      last = λ bs c cs e a h. sym (ap (reached 0) e ∙ reached-last 0 bs c cs a h);
+      last = λ bs c cs e a h. sym (ap (reached 0) e ∙ reached-last t 0 bs c cs (subst (Consecutive t 0) e u) a h);
       passed = omega (arith, i .passed);
       handed = i .handed;
       number = omega (arith, i .number);

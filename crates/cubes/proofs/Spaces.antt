@@ -1,16 +1,17 @@
--- All cosets of one space at once, as a loop over its basis finds its one prime: the folds, and the prime by a count. Read next: Counts.
+-- All cosets of one space at once, as a loop over its basis finds its one prime: the fold, and the prime by a count. Read next: Counts.
 use mathlib.Core.Path.{_≡_, refl, sym, ap, ap₂, _∙_, subst}
-use mathlib.Core.Bool.{Bool, true, false, cond, _&&_, _||_}
+use mathlib.Core.Bool.{Bool, true, false, not, cond, _&&_, _||_, Bool·not-not}
 use mathlib.Core.Logic.{inl, inr, _↔_}
 use mathlib.Core.List.{List, [], _∷_}
 use Prim.Native.Nat.{ℕ, zero, suc, _^_, _≤_, _<_}
 use native.Mathlib.Nat.{eq-or-lt-of-le, le-of-suc-le-suc, suc-inj}
 use native.Mathlib.Omega.{arith}
+use lib.Bits.{xor-lt}
 use lib.ListN.{length}
 use Rattle.gf2.specs.Bits.{_⊕_}
-use Rattle.gf2.specs.Finite.{select}
+use Rattle.gf2.specs.Finite.{Mem, select}
 use Rattle.gf2.specs.Span.{Span}
-use Rattle.gf2.proofs.Logic.{same, and-false}
+use Rattle.gf2.proofs.Logic.{same, and-exchange}
 use Rattle.gf2.proofs.Xor.{xor-swap, xors}
 use Rattle.gf2.proofs.Finite.{select-ext}
 use Rattle.gf2.proofs.Span.{span-xor}
@@ -19,36 +20,34 @@ use Rattle.cubes.specs.Primes.{everyPoint, somePoint, allowed, isPrime, 
 use Rattle.cubes.proofs.Cubes.{select-step, points-are, candidate-size}
 use Rattle.cubes.proofs.Primes.{every-point, prime-alone}
 
--- ---- the folds
+-- ---- the fold
 
--- For each vector b, f x is replaced by f x AND f (x ⊕ b), or by OR; afterwards it says of x that every point, or some point, of its coset passed.
+-- For each vector b, f x is replaced by f x AND f (x ⊕ b); afterwards it says of x that every point of its coset passed.
 pub every-step : (f : ℕ → Bool) (b : ℕ) (bs : List ℕ) (x : ℕ) → everyPoint f (b ∷ bs) x ≡ everyPoint (λ y. f y && f (y ⊕ b)) bs x
 unfolding everyPoint
 every-step f b [] x = refl
 every-step f b (c ∷ bs) x =
     ap (λ (z : ℕ). (everyPoint f bs x && everyPoint f bs (x ⊕ c)) && (everyPoint f bs (x ⊕ b) && everyPoint f bs z)) (xor-swap x b c)
-    ∙ middle (everyPoint f bs x) (everyPoint f bs (x ⊕ c)) (everyPoint f bs (x ⊕ b)) (everyPoint f bs (x ⊕ c ⊕ b))
+    ∙ and-exchange (everyPoint f bs x) (everyPoint f bs (x ⊕ c)) (everyPoint f bs (x ⊕ b)) (everyPoint f bs (x ⊕ c ⊕ b))
     ∙ ap₂ _&&_ (every-step f b bs x) (every-step f b bs (x ⊕ c))
-  where
-    middle : (p q r s : Bool) → (p && q) && (r && s) ≡ (p && r) && (q && s)
-    middle false q r s = refl
-    middle true true r s = refl
-    middle true false r s = sym (and-false r)
 
-pub some-step : (f : ℕ → Bool) (b : ℕ) (bs : List ℕ) (x : ℕ) → somePoint f (b ∷ bs) x ≡ somePoint (λ y. f y || f (y ⊕ b)) bs x
-unfolding somePoint
-some-step f b [] x = refl
-some-step f b (c ∷ bs) x =
-    ap (λ (z : ℕ). (somePoint f bs x || somePoint f bs (x ⊕ c)) || (somePoint f bs (x ⊕ b) || somePoint f bs z)) (xor-swap x b c)
-    ∙ middle (somePoint f bs x) (somePoint f bs (x ⊕ c)) (somePoint f bs (x ⊕ b)) (somePoint f bs (x ⊕ c ⊕ b))
-    ∙ ap₂ _||_ (some-step f b bs x) (some-step f b bs (x ⊕ c))
+-- Some point passes exactly if not every point fails.
+pub some-every : (f : ℕ → Bool) (bs : List ℕ) (x : ℕ) → somePoint f bs x ≡ not (everyPoint (λ y. not (f y)) bs x)
+unfolding somePoint everyPoint
+some-every f [] x = sym (Bool·not-not (f x))
+some-every f (b ∷ bs) x = rw (some-every f bs x, some-every f bs (x ⊕ b)) (turn (everyPoint (λ y. not (f y)) bs x) (everyPoint (λ y. not (f y)) bs (x ⊕ b)))
   where
-    middle : (p q r s : Bool) → (p || q) || (r || s) ≡ (p || r) || (q || s)
-    middle true q r s = refl
-    middle false true true s = refl
-    middle false true false s = refl
-    middle false false true s = refl
-    middle false false false s = refl
+    turn : (s t : Bool) → not s || not t ≡ not (s && t)
+    turn true t = refl
+    turn false t = refl
+
+-- Tests that agree on the points of n variables agree on every coset there.
+pub every-ext : (n : ℕ) (f g : ℕ → Bool) → ((y : ℕ) → y < 2 ^ n → f y ≡ g y) → (bs : List ℕ) → ((b : ℕ) → Mem b bs → b < 2 ^ n) → (x : ℕ) → x < 2 ^ n
+    → everyPoint f bs x ≡ everyPoint g bs x
+unfolding everyPoint
+every-ext n f g e [] h x l = e x l
+every-ext n f g e (b ∷ bs) h x l =
+    ap₂ _&&_ (every-ext n f g e bs (λ c m. h c (inr m)) x l) (every-ext n f g e bs (λ c m. h c (inr m)) (x ⊕ b) (xor-lt n x b l (h b (inl refl))))
 
 -- ---- the prime of a space by a count
 

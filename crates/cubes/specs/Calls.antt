@@ -41,9 +41,9 @@ pub record Refused (c : Call) : Type 0 where
 
 -- ---- lists of calls
 
--- The place after a call: an accepted call takes it on, a refused one leaves it.
+-- The place after a call: an accepted call takes it on as the listing rule says, a refused one leaves it.
 abbrev pub advance : ℕ → Call → ℕ
-advance place c = cond (accepted c) (answer c .next) place
+advance place c = cond (accepted c) (place + listing c .passed) place
 
 -- The place that the calls reach from a place: the candidates behind it are passed.
 unfoldable pub reached : ℕ → List Call → ℕ

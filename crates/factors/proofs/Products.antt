@@ -1,7 +1,7 @@
 -- Laws of specs.Factors: the factors of a candidate's masks at its least point are those of its canonical product, with the equations put in;
 -- a product put into a value is read back.
 use mathlib.Core.Path.{_≡_, refl, sym, ap, ap₂, _∙_, subst}
-use mathlib.Core.List.{List, [], _∷_, map, map-map}
+use mathlib.Core.List.{List, [], _∷_, map, map-map, zipWith}
 use Prim.Native.Nat.{ℕ, zero, suc, _-_, _≤_, _<_}
 use native.Mathlib.Nat.{le-of-suc-le-suc}
 use native.Mathlib.Omega.{arith}
@@ -18,9 +18,10 @@ use Rattle.product.specs.Product.{Factor, factor}
 use Rattle.cubes.specs.Cubes.{Candidate, candidate, degree, IsCandidate}
 use Rattle.cover.specs.CanonicalProduct.{constantAt, placeFactor, canonicalProduct}
 use Rattle.cover.specs.Substitution.{substituteMask, substituteFactor, substituteProduct}
+use Rattle.cover.specs.WrittenForm.{productBy}
 use Rattle.cover.proofs.CanonicalProduct.{product-fits, product-length}
 use Rattle.factors.specs.declared.FactorList.{FactorList}
-use Rattle.factors.specs.Factors.{constantsOf, masksOf, factorsOf, factorsAt, paired, productIn, IsProduct}
+use Rattle.factors.specs.Factors.{constantsOf, masksOf, factorsOf, factorsAt, productIn, IsProduct}
 use Rattle.factors.proofs.Steps.{short-few}
 
 -- The masks in the y's of a candidate are the equations of its basis.
@@ -28,38 +29,38 @@ module _ (es : List ℕ) (m point : ℕ) (bs : List ℕ) where
   abbrev ks : List ℕ
   ks = noncanonicalPlaces m bs
 
-  same-constants : map (λ mask. constantAt mask point) (equations m bs) ≡ constantsOf (substituteProduct es (canonicalProduct m (candidate point bs)))
+  same-constants : map (λ mask. constantAt mask point) (equations m bs) ≡ constantsOf (productBy es m (candidate point bs))
   unfolding equations canonicalProduct substituteProduct placeFactor substituteFactor
   same-constants =
       map-map (λ mask. constantAt mask point) (equation bs) ks
       ∙ sym (ap (map (λ f. f .constant)) (map-map (substituteFactor es) (placeFactor (candidate point bs)) ks) ∙ map-map (λ f. f .constant) (λ k. substituteFactor es (placeFactor (candidate point bs) k)) ks)
 
-  same-masks : map (substituteMask es) (equations m bs) ≡ masksOf (substituteProduct es (canonicalProduct m (candidate point bs)))
+  same-masks : map (substituteMask es) (equations m bs) ≡ masksOf (productBy es m (candidate point bs))
   unfolding equations canonicalProduct substituteProduct placeFactor substituteFactor
   same-masks =
       map-map (substituteMask es) (equation bs) ks
       ∙ sym (ap (map (λ f. f .mask)) (map-map (substituteFactor es) (placeFactor (candidate point bs)) ks) ∙ map-map (λ f. f .mask) (λ k. substituteFactor es (placeFactor (candidate point bs) k)) ks)
 
-  pub factors-product : factorsAt es (equations m bs) point ≡ factorsOf (substituteProduct es (canonicalProduct m (candidate point bs)))
+  pub factors-product : factorsAt es (equations m bs) point ≡ factorsOf (productBy es m (candidate point bs))
   factors-product = ap₂ (λ (cs ms : List ℕ). record { constants = short cs; masks = short ms }) same-constants same-masks
 
 -- ---- a product by value
 
-paired-back : (fs : List Factor) → paired (constantsOf fs) (masksOf fs) ≡ fs
-unfolding paired
-paired-back [] = refl
-paired-back (f ∷ fs) = ap (λ l. f ∷ l) (paired-back fs)
+pub zip-back : (fs : List Factor) → zipWith factor (constantsOf fs) (masksOf fs) ≡ fs
+unfolding zipWith
+zip-back [] = refl
+zip-back (f ∷ fs) = ap (λ l. f ∷ l) (zip-back fs)
 
-paired-at : (constants masks : List ℕ) (i : ℕ) → i < length (paired constants masks) → getD (paired constants masks) i (factor 0 0) ≡ factor (getD constants i 0) (getD masks i 0)
-unfolding paired
-paired-at [] masks i h = absurd (omega arith)
-paired-at (constant ∷ constants) [] i h = absurd (omega arith)
-paired-at (constant ∷ constants) (mask ∷ masks) zero h = refl
-paired-at (constant ∷ constants) (mask ∷ masks) (suc i) h = paired-at constants masks i (le-of-suc-le-suc h)
+zip-at : (constants masks : List ℕ) (i : ℕ) → i < length (zipWith factor constants masks) → getD (zipWith factor constants masks) i (factor 0 0) ≡ factor (getD constants i 0) (getD masks i 0)
+unfolding zipWith
+zip-at [] masks i h = absurd (omega arith)
+zip-at (constant ∷ constants) [] i h = absurd (omega arith)
+zip-at (constant ∷ constants) (mask ∷ masks) zero h = refl
+zip-at (constant ∷ constants) (mask ∷ masks) (suc i) h = zip-at constants masks i (le-of-suc-le-suc h)
 
 -- The value that stands for a product is read back.
 pub product-back : (fs : List Factor) → productIn (factorsOf fs) ≡ fs
-product-back fs = rw (listed-back (constantsOf fs), listed-back (masksOf fs)) (paired-back fs)
+product-back fs = rw (listed-back (constantsOf fs), listed-back (masksOf fs)) (zip-back fs)
 
 pub is-product : (fs : List Factor) → ((f : Factor) → Mem f fs → f .constant ≤ 1) → IsProduct (factorsOf fs)
 is-product fs h = record {
@@ -81,7 +82,7 @@ module _ (r : FactorList) (k : IsProduct r) where
   module _ (i : ℕ) (h : i < r .masks .len) where
     pub factor-at : getD (productIn r) i (factor 0 0) ≡ factor (getD (r .constants .values) i 0) (getD (r .masks .values) i 0)
     factor-at =
-        paired-at (listed (r .constants)) (listed (r .masks)) i (omega (arith, masks-len))
+        zip-at (listed (r .constants)) (listed (r .masks)) i (omega (arith, masks-len))
         ∙ ap₂ factor (getD-take (r .constants .len) (r .constants .values) i 0 (omega (arith, constants-len, masks-len))) (getD-take (r .masks .len) (r .masks .values) i 0 h)
 
     pub constant-binary : getD (r .constants .values) i 0 ≤ 1
@@ -91,12 +92,12 @@ module _ (r : FactorList) (k : IsProduct r) where
 -- ---- the product written for a candidate
 
 module _ (es : List ℕ) (m : ℕ) (c : Candidate) (k : IsCandidate m c) where
-  pub product-binary : (f : Factor) → Mem f (substituteProduct es (canonicalProduct m c)) → f .constant ≤ 1
+  pub product-binary : (f : Factor) → Mem f (productBy es m c) → f .constant ≤ 1
   unfolding substituteProduct substituteFactor
   product-binary f i =
       let g = map-mem (substituteFactor es) (canonicalProduct m c) f i in
       rw (g .2) (product-fits m c k (g .0) (g .1) .binary)
 
-  pub product-factors : length (substituteProduct es (canonicalProduct m c)) ≡ m - degree c
+  pub product-factors : length (productBy es m c) ≡ m - degree c
   unfolding substituteProduct
   product-factors = length-map (canonicalProduct m c) (substituteFactor es) ∙ omega (arith, product-length m c k)

@@ -1,6 +1,6 @@
 -- A product by value (document 01, "The written form"): the constants and the masks of its factors.
 use mathlib.Core.Path.{_≡_}
-use mathlib.Core.List.{List, [], _∷_, map}
+use mathlib.Core.List.{List, map, zipWith}
 use Prim.Native.Nat.{ℕ, _≤_}
 use Rattle.gf2.specs.Finite.{Mem}
 use Rattle.basis.specs.Short.{listed, short}
@@ -20,15 +20,9 @@ masksOf fs = map (λ f. f .mask) fs
 abbrev pub factorsOf : List Factor → FactorList
 factorsOf fs = record { constants = short (constantsOf fs); masks = short (masksOf fs) }
 
--- The factors of constants and masks that stand side by side.
-unfoldable pub paired : List ℕ → List ℕ → List Factor
-paired [] masks = []
-paired (constant ∷ constants) [] = []
-paired (constant ∷ constants) (mask ∷ masks) = factor constant mask ∷ paired constants masks
-
--- The product that a value stands for.
+-- The product that a value stands for: its constants and its masks stand side by side.
 abbrev pub productIn : FactorList → List Factor
-productIn r = paired (listed (r .constants)) (listed (r .masks))
+productIn r = zipWith factor (listed (r .constants)) (listed (r .masks))
 
 -- A value that is a product: nothing else is in it, and its constants are 0 or 1.
 pub record IsProduct (r : FactorList) : Type 0 where

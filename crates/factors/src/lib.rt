@@ -12,9 +12,10 @@ ghost use Rattle.basis.specs.Reduced.{basisOf};
 ghost use Rattle.cubes.specs.Cubes.{IsCandidate};
 ghost use Rattle.cubes.specs.Records.{maxListed};
 ghost use Rattle.bases.specs.Bases.{vectorsOf};
-ghost use Rattle.masks.specs.Entry.{candidateAt};
-ghost use Rattle.cover.specs.CanonicalProduct.{constantAt, canonicalProduct};
-ghost use Rattle.cover.specs.Substitution.{substituteMask, substituteProduct};
+ghost use Rattle.bases.specs.Entry.{candidateAt};
+ghost use Rattle.cover.specs.CanonicalProduct.{constantAt};
+ghost use Rattle.cover.specs.Substitution.{substituteMask};
+ghost use Rattle.cover.specs.WrittenForm.{productBy};
 ghost use Rattle.factors.specs.Factors.{factorsOf, factorsAt};
 
 // The factors of a product in form order: their constants and their masks.
@@ -100,13 +101,13 @@ fn factors_at(equations: ShortList, masks: ShortList, point: u16) -> FactorList
 
 // The product of the candidate of m variables that has this least point and the vectors of this entry, with the equations of y1, y2, ..
 // put in.
-pub fn product_of(equations: ShortList, m: usize, d: usize, point: u64, entry: u64) -> FactorList
+pub fn product_of(equations: ShortList, m: usize, d: usize, point: u16, entry: u64) -> FactorList
     requires { ⌜ equations ≡ short (listed equations) ⌝ }
     requires { ⌜ m ≤ maxListed ⌝ }
     requires { ⌜ IsCandidate m (candidateAt d point entry) ⌝ }
-    ensures { λ r. ⌜ r ≡ factorsOf (substituteProduct (listed equations) (canonicalProduct m (candidateAt d point entry))) ⌝ }
+    ensures { λ r. ⌜ r ≡ factorsOf (productBy (listed equations) m (candidateAt d point entry)) ⌝ }
 {
     let basis = basis_of(d, entry);
     let masks = projection::equations(basis, m);
-    factors_at(equations, masks, point as u16)
+    factors_at(equations, masks, point)
 }

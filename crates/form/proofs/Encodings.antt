@@ -19,13 +19,13 @@ use Rattle.records.proofs.KindBytes.{kind-byte, word-of-bytes, low-of-word, hig
 use Rattle.table.proofs.Table.{good-count}
 use Rattle.product.specs.Product.{Factor, factor, fits, AllFit, Canonical, canonical, agrees}
 use Rattle.product.proofs.Product.{fits-is, canonical-is, canonical-next, canonical-prefix}
-use Rattle.records.specs.declared.Walk.the-variants.{Laid, After}
+use Rattle.records.specs.declared.Walk.the-variants.{After}
 use Rattle.form.specs.Form.{maxProducts, Form, ValidForm}
 use Rattle.form.specs.Encoding.{encodeFactors, encodeProducts, encodeForm}
-use Rattle.form.specs.Decoding.{Parts, noParts, partsFrom, formProducts, decodeForm}
+use Rattle.form.specs.Decoding.{Parts, noParts, partsFrom, decodeForm}
 use Rattle.form.specs.Walk.{walkedForm}
 use Rattle.form.specs.Reading.{IsForm}
-use Rattle.form.proofs.Laying.{Laying, ends, begins, holds, LaidAs, form, walk-laid, walk-longer, is-form, form-laid}
+use Rattle.form.proofs.Laying.{Laying, ends, begins, holds, LaidAs, form, walk-longer, is-form, form-laid}
 
 -- ---- the parts of each record and of those that follow
 
@@ -96,10 +96,6 @@ unfolding encodeForm
 encoded-laid f v =
     form variables-kind (good-count (f .variables) .1 (v .some, v .few))
     (products-laying (f .variables) (f .products) 0 [] (length (f .products)) (omega arith) (v .short) (v .fitting) (v .canonicals))
-
--- The walk over the bytes of a valid form finds its products.
-pub encoded-walk : (f : Form) → ValidForm f → walkedForm (encodeForm f) ≡ Laid (length (f .products))
-encoded-walk f v = walk-laid (encoded-laid f v)
 
 factors-read : (fs : List Factor) (rest : List ℕ) → partsFrom 0 (encodeFactors fs ++ rest) ≡ record { factors = fs ++ partsFrom 0 rest .factors; products = partsFrom 0 rest .products }
 unfolding encodeFactors
@@ -180,9 +176,6 @@ as-valid (form {n = n} {rest = rest} q b r) =
       fitting = s .products-fit;
       canonicals = s .products-canonical;
     }
-
-as-count : {bytes : List ℕ} {all : ℕ} → LaidAs bytes all → all ≡ length (formProducts bytes)
-as-count (form q b r) = omega (arith, laying-count r)
 
 -- Accepted bytes stand for a valid form.
 pub form-valid : (bytes : List ℕ) → IsForm bytes → ValidForm (decodeForm bytes)

@@ -1,7 +1,7 @@
 -- Laws of specs.Walk and specs.Counting: what a whole record says of the bytes that are left, and the walk as the loop meets it, a record
 -- more at a time. Read next: Laying.
 use mathlib.Core.Path.{_≡_, refl, sym, ap, _∙_, subst}
-use mathlib.Core.Bool.{Bool, true, false, cond, _&&_}
+use mathlib.Core.Bool.{true, false, cond, _&&_, and-assoc}
 use mathlib.Core.List.{List, [], _∷_, _++_}
 use mathlib.Core.Logic.{inl, inr}
 use Prim.Native.Nat.{ℕ, zero, suc, _≤_, _<_, _+_, _-_}
@@ -210,10 +210,6 @@ agrees-snoc : (fs : List Factor) (f g : Factor) → agrees (fs ++ (f ∷ [])) g 
 unfolding agrees apart
 agrees-snoc [] f g = and-true (apartMasks (f .mask) (g .mask))
 agrees-snoc (h ∷ fs) f g = rw (agrees-snoc fs f g) (sym (and-assoc (apartMasks (h .mask) (g .mask)) (agrees fs g) (apartMasks (f .mask) (g .mask))))
-  where
-    and-assoc : (a b c : Bool) → (a && b) && c ≡ a && (b && c)
-    and-assoc true b c = refl
-    and-assoc false b c = refl
 
 module _ (left : ℕ) (bytes : List ℕ) (at : ℕ) (h : 0 < left) where
   factors-last : factorsBefore left bytes at ≡ factorsBefore (left - 1) bytes (at - factorLength) ++ (factorOf (drop (at - factorLength + 1) bytes) ∷ [])

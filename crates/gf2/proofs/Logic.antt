@@ -37,6 +37,12 @@ and-r false b e = clash e refl
 pub and-i : (a b : Bool) → a ≡ true → b ≡ true → a && b ≡ true
 and-i a b p q = rw (p, q)
 
+pub and-exchange : (a b c d : Bool) → (a && b) && (c && d) ≡ (a && c) && (b && d)
+and-exchange false b c d = refl
+and-exchange true false true d = refl
+and-exchange true false false d = refl
+and-exchange true true c d = refl
+
 -- Disjunction.
 pub or-l : (a b : Bool) → a ≡ true → a || b ≡ true
 or-l true b e = refl

@@ -73,11 +73,6 @@ unfolding odd oddIn
 odd-zero w = refl
 
 -- A mask of one bit reads that bit.
-oddIn-zero : (k w : ℕ) → oddIn k 0 w ≡ false
-unfolding oddIn bit
-oddIn-zero zero w = refl
-oddIn-zero (suc k) w = oddIn-zero k (w / 2)
-
 oddIn-pow : (j w : ℕ) → oddIn (suc j) (2 ^ j) w ≡ bit j w
 unfolding oddIn bit
 oddIn-pow zero w = ⊻-false (eqb (w % 2) 1)

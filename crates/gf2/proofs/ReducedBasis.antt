@@ -4,7 +4,7 @@ use mathlib.Core.Path.{_≡_, refl, ap, _∙_, subst, ap₂}
 use mathlib.Core.Bool.{Bool, true, false, not, _&&_}
 use mathlib.Core.Logic.{_⊎_, inl, inr, _↔_}
 use mathlib.Core.List.{List, [], _∷_, _++_}
-use Prim.Native.Nat.{ℕ, zero, suc, _+_, _^_, _≤_, _<_}
+use Prim.Native.Nat.{ℕ, zero, suc, _+_, _^_, _<_}
 use native.Mathlib.Nat.{eq-zero-or-pos}
 use native.Mathlib.Numerals.{add-one}
 use native.Mathlib.Decide.{ℕ-discrete}
@@ -22,7 +22,7 @@ use Rattle.gf2.proofs.Finite.{all-at, all-not, below-ind, mem-snoc, sno
 use Rattle.gf2.proofs.Xor.{xor-cancel, bit-pow-other}
 use Rattle.gf2.proofs.Leads.{hasLead-lt, lead-highest, lead-pow, lead-fits}
 use Rattle.gf2.proofs.Span.{span-zero, span-xor, span-mem, span-least, span-below}
-use Rattle.gf2.proofs.Reduce.{apart, reduced-length}
+use Rattle.gf2.proofs.Reduce.{apart}
 use Rattle.gf2.proofs.Unique.{unique}
 use Rattle.gf2.proofs.Insert.{inserts-basis}
 
@@ -81,9 +81,6 @@ basis-reduced n P = below-reduced P (2 ^ n)
 pub basis-below : (n : ℕ) (P : ℕ → Bool) (b : ℕ) → Mem b (reducedBasis n P) → b < 2 ^ n
 unfolding reducedBasis
 basis-below n P b m = select-mem (irreducible P) (2 ^ n) b m .0
-
-pub basis-length : (n : ℕ) (P : ℕ → Bool) → length (reducedBasis n P) ≤ n
-basis-length n P = reduced-length n (reducedBasis n P) (basis-reduced n P) (basis-below n P)
 
 -- Of a space, it spans the space.
 pub basis-span : (n : ℕ) (P : ℕ → Bool) → Space (In n P) → (x : ℕ) → Span (reducedBasis n P) x ↔ In n P x

@@ -1,20 +1,20 @@
 -- Laws of XOR and of single bits: the bits of a XOR, numbers with the same bits, associativity and cancellation, bits above a bound.
 -- Read next: Leads.
 use mathlib.Core.Path.{_≡_, refl, sym, ap, _∙_}
-use mathlib.Core.Bool.{true, false, _&&_}
+use mathlib.Core.Bool.{true, false, not, _&&_}
 use mathlib.Core.Logic.{_≢_}
-use Prim.Native.Nat.{ℕ, zero, suc, _-_, _/_, _%_, _^_, _<_}
-use native.Mathlib.Nat.{div-one, le-of-suc-le-suc, lt-of-not-le, mod-lt, zero-lt-suc}
+use Prim.Native.Nat.{ℕ, zero, suc, _-_, _*_, _/_, _%_, _^_, _<_}
+use native.Mathlib.Nat.{div-one, le-of-suc-le-suc, lt-of-not-le, mod-lt, one-mul, zero-lt-suc}
 use native.Mathlib.Numerals.{one-add}
 use native.Mathlib.Decide.{decLe}
 use native.Mathlib.Omega.{arith}
 use lib.Arith.{bin-ind}
-use lib.Dec.{eqb, eqb·zero-suc, eqb·suc-zero, eqb·suc-suc}
-use lib.Pow.{pow-mono, pow-pos, shr-shr}
+use lib.Dec.{eqb, eqb·zero-suc, eqb·suc-zero, eqb·suc-suc, lit<}
+use lib.Pow.{pow-mono, pow-pos, shl-exact, shr-shr}
 use lib.Bits.{bitAnd, and-shr, and-mod, xor-comm, xor-self, xor-zero-l, xor-zero-r, xor-shr, xor-mod}
 use borrow.Author.Tests.{eq-eqb, ne-eqb}
 use Rattle.gf2.specs.Bits.{_⊕_, _⊻_, bit}
-use Rattle.gf2.proofs.Logic.{⊻-assoc}
+use Rattle.gf2.proofs.Logic.{⊻-assoc, ⊻-comm}
 
 -- ---- bits
 
@@ -54,6 +54,10 @@ unfolding bit
 bit-zero zero = refl
 bit-zero (suc k) = bit-zero k
 
+-- 1 shifted to place k, in a number of w bits.
+pub shifted-one : (k w : ℕ) → k < w → 1 * 2 ^ k % 2 ^ w ≡ 2 ^ k
+shifted-one k w h = shl-exact 1 k w (lit< tt) (omega arith) ∙ one-mul (2 ^ k)
+
 -- A number below 2 ^ k has no bit at place k.
 pub bit-big : (k x : ℕ) → x < 2 ^ k → bit k x ≡ false
 unfolding bit
@@ -88,6 +92,10 @@ bit-ones (suc n) zero h = let e : (2 ^ suc n - 1) % 2 ≡ 1 = omega (arith, pow-
 bit-ones (suc n) (suc k) h =
     let e : (2 ^ suc n - 1) / 2 ≡ 2 ^ n - 1 = omega (arith, pow-pos n) in
     rw e (bit-ones n k (le-of-suc-le-suc h))
+
+-- XOR with it turns the bits over.
+pub bit-turned : (n k m : ℕ) → k < n → bit k (m ⊕ (2 ^ n - 1)) ≡ not (bit k m)
+bit-turned n k m h = bit-xor k m (2 ^ n - 1) ∙ rw (bit-ones n k h) (⊻-comm (bit k m) true)
 
 -- ---- two numbers with the same bits are equal
 

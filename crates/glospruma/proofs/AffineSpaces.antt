@@ -15,7 +15,7 @@ use Rattle.table.specs.Refusal.{test, firstFault, Numbered, affineFault}
 use Rattle.table.specs.Table.{tableTests, tableFault}
 use Rattle.table.proofs.Refusal.{numbered}
 use Rattle.table.proofs.Table.{table-numbered}
-use Rattle.table.proofs.Decide.{table-refused, table-passed, Ways, ways}
+use Rattle.table.proofs.Decide.{table-refused, then-applies, then-none, Ways, ways}
 use Rattle.space.specs.Restriction.{project}
 use Rattle.space.specs.Affine.{directions, projection}
 use Rattle.projection.specs.Masks.{projected as byMask}
@@ -32,12 +32,12 @@ module _ (n : ℕ) (on : List ℕ) where
   on-refused k e z = sym (table-refused (tableTests n on []) (test affineFault (eqb (length on) 0) ∷ []) k (sym e) z)
 
   pub on-empty : tableFault n on [] ≡ 0 → length on ≡ 0 → affineFault ≡ firstFault (onTests n on)
-  unfolding tableFault firstFault
-  on-empty e z = sym (table-passed (tableTests n on []) (test affineFault (eqb (length on) 0) ∷ []) (table-numbered n on []) e ∙ rw (eq-eqb (length on) 0 z))
+  unfolding tableFault
+  on-empty e z = sym (then-applies (tableTests n on []) (table-numbered n on []) e affineFault (eqb (length on) 0) (eq-eqb (length on) 0 z))
 
   pub on-passed : tableFault n on [] ≡ 0 → length on ≢ 0 → firstFault (onTests n on) ≡ 0
-  unfolding tableFault firstFault
-  on-passed e z = table-passed (tableTests n on []) (test affineFault (eqb (length on) 0) ∷ []) (table-numbered n on []) e ∙ rw (ne-eqb (length on) 0 z)
+  unfolding tableFault
+  on-passed e z = then-none (tableTests n on []) (table-numbered n on []) e affineFault (eqb (length on) 0) (ne-eqb (length on) 0 z)
 
   -- Every point is projected.
   pub projected-all : length (projected n on) ≡ length on

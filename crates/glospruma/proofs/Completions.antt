@@ -9,7 +9,6 @@ use Rattle.basis.specs.declared.Basis.{Basis}
 use Rattle.basis.specs.declared.ShortList.{ShortList}
 use Rattle.basis.specs.Short.{short}
 use Rattle.basis.specs.Reduced.{vectorsOf, basisOf}
-use Rattle.basis.proofs.Values.{vectors-back}
 use Rattle.table.specs.Table.{tableTests, tableFault}
 use Rattle.table.proofs.Decide.{Ways, ways}
 use Rattle.table.proofs.Table.{table-numbered}
@@ -18,39 +17,27 @@ use Rattle.space.specs.Closure.{degree}
 use Rattle.space.specs.Witness.{flagged}
 use Rattle.space.specs.Completion.{completed, completedPoints, IsCompleted}
 use Rattle.space.specs.Restriction.{equations}
-use Rattle.space.proofs.Closure.{linear-reduced}
-use Rattle.space.proofs.Restriction.{restriction-ext}
 use Rattle.projection.specs.Masks.{kept}
-use Rattle.projection.proofs.Masks.{kept-restriction, kept-all}
+use Rattle.projection.proofs.Masks.{kept-all}
+use Rattle.projection.proofs.Restrictions.{completed-vectors, completed-len, completed-kept}
 use Rattle.glospruma.specs.declared.Completion.{Completion}
 use Rattle.glospruma.specs.declared.Analysis.{Analysis}
 use Rattle.glospruma.specs.Spaces.{completeAccepted, completeRefused, completeAnswer, completeRoom, analyseAccepted, analyseRefused, analyseAnswer, analyseRoom, completedSpace, completedRestriction}
 
 module _ (n : ℕ) (on free : List ℕ) (r : Completed) (k : IsCompleted n on free r) where
   -- All points of the completed function are kept by the mask 0.
-  pub points-kept : kept n 0 (flagged (r .flags)) ≡ completedPoints n on free
+  pub all-kept : kept n 0 (flagged (r .flags)) ≡ completedPoints n on free
   unfolding completedPoints
-  points-kept = kept-all n (flagged (r .flags)) ∙ select-ext (flagged (r .flags)) (completed n on free) (2 ^ n) (k .flags)
-
-  -- Its vectors.
-  pub space-vectors : vectorsOf (r .basis) ≡ completedSpace n on free
-  space-vectors = ap vectorsOf (k .basis .value) ∙ vectors-back (completedSpace n on free)
-
-  -- The lead mask of its linear space keeps the restriction.
-  pub restriction-kept : (m : ℕ) → m ≡ leadMask (vectorsOf (r .basis)) → kept n m (flagged (r .flags)) ≡ completedRestriction n on free
-  restriction-kept m e =
-      ap (λ (x : ℕ). kept n x (flagged (r .flags))) (e ∙ ap leadMask space-vectors)
-      ∙ kept-restriction n (completedSpace n on free) (linear-reduced n (completed n on free)) (flagged (r .flags))
-      ∙ restriction-ext n (completedSpace n on free) (flagged (r .flags)) (completed n on free) (k .flags)
+  all-kept = kept-all n (flagged (r .flags)) ∙ select-ext (flagged (r .flags)) (completed n on free) (2 ^ n) (k .flags)
 
   space-len : r .basis .len ≡ degree n (completed n on free)
   unfolding degree
-  space-len = ap (λ (b : Basis). b .len) (k .basis .value)
+  space-len = completed-len k
 
   pub complete-numbers : (count : ℕ) → count ≡ length (kept n 0 (flagged (r .flags)))
       → _≡_ {A = Completion} (record { refusal = 0; count = count; degree = r .basis .len; low = r .low; high = r .high }) (completeAccepted n on free)
   complete-numbers count e =
-      let c : count ≡ length (completedPoints n on free) = e ∙ ap length points-kept in
+      let c : count ≡ length (completedPoints n on free) = e ∙ ap length all-kept in
       rw (c, space-len, k .low, k .high)
 
   pub analyse-numbers : (count m : ℕ) (canonical equations′ : ShortList) → m ≡ leadMask (vectorsOf (r .basis)) → count ≡ length (kept n m (flagged (r .flags)))
@@ -59,9 +46,9 @@ module _ (n : ℕ) (on free : List ℕ) (r : Completed) (k : IsCompleted n on fr
   unfolding degree
   analyse-numbers count m canonical equations′ e q x y =
       let bs = completedSpace n on free in
-      let c : count ≡ length (completedRestriction n on free) = q ∙ ap length (restriction-kept m e) in
-      let xs : canonical ≡ short (variablesAt n (canonicalPlaces n (completedSpace n on free))) = x ∙ ap (λ bs. short (variablesAt n (canonicalPlaces n bs))) space-vectors in
-      let ys : equations′ ≡ short (equations n (completedSpace n on free)) = y ∙ ap (λ bs. short (equations n bs)) space-vectors in
+      let c : count ≡ length (completedRestriction n on free) = q ∙ ap length (completed-kept k m e) in
+      let xs : canonical ≡ short (variablesAt n (canonicalPlaces n (completedSpace n on free))) = x ∙ ap (λ bs. short (variablesAt n (canonicalPlaces n bs))) (completed-vectors k) in
+      let ys : equations′ ≡ short (equations n (completedSpace n on free)) = y ∙ ap (λ bs. short (equations n bs)) (completed-vectors k) in
       ap (λ (b : Basis). record { refusal = 0; degree = b .len; basis = b; canonical = canonical; equations = equations′; count = count }) (k .basis .value)
       ∙ ap (λ (z : ShortList). record { refusal = 0; degree = length bs; basis = basisOf bs; canonical = z; equations = equations′; count = count }) xs
       ∙ ap (λ (z : ShortList). record { refusal = 0; degree = length bs; basis = basisOf bs; canonical = short (variablesAt n (canonicalPlaces n bs)); equations = z; count = count }) ys

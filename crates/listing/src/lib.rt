@@ -9,7 +9,7 @@ ghost use Rattle.cubes.specs.Records.{maxListed};
 ghost use Rattle.cubes.specs.Listing.{listingFault, answer, listingRoom};
 ghost use Rattle.listing.specs.Starts.{StartsAt};
 ghost use Rattle.listing.specs.Answers.{callOf, numbersOf};
-use masks::MAX_LISTED;
+use cubes::MAX_LISTED;
 use table::PLACE_FAULT;
 use table::SIZE_FAULT;
 

@@ -1,6 +1,6 @@
--- Laws of masks moved by a vector: one bit of it exchanges blocks of places, and its bits one after the other are the whole vector.
+-- Laws of masks moved by a vector: one bit of it exchanges blocks of places, and its bits one after the other are the whole vector. Read next: Folds.
 use mathlib.Core.Path.{_≡_, refl, sym, ap, ap₂, _∙_, subst}
-use mathlib.Core.Bool.{Bool, true, false, not, cond, _&&_, _||_}
+use mathlib.Core.Bool.{Bool, true, false, not, cond, _&&_, _||_, or-false}
 use mathlib.Core.Logic.{inl, inr}
 use Prim.Native.Nat.{ℕ, _+_, _-_, _*_, _/_, _%_, _^_, _≤_, _<_}
 use native.Mathlib.Nat.{lt-of-not-le, lt-of-le-of-lt, mod-lt, add-comm}
@@ -102,10 +102,6 @@ exchange-moved k m h l x = elim (decLe maskSize x) [
     none w (yes g) = second (x - 2 ^ k) (omega arith) ∙ ap (λ (t : Bool). bit (x - 2 ^ k) m && t) (w .out g) ∙ and-false (bit (x - 2 ^ k) m)
     none w (no g) = bit-under x (2 ^ k) (bitAnd m (lowPlaces k)) (lt-of-not-le g)
 
-    or-off : (a : Bool) → a || false ≡ a
-    or-off true = refl
-    or-off false = refl
-
     near : (b : Bool) → bit k x ≡ b → cond b (highPlace k x) (lowPlace k x) ≡ true
         → (bit (2 ^ k + x) m && bit x (lowPlaces k)) || bit x (bitAnd m (lowPlaces k) * 2 ^ 2 ^ k) ≡ bit (x ⊕ 2 ^ k) m
     near true q t =
@@ -116,7 +112,7 @@ exchange-moved k m h l x = elim (decLe maskSize x) [
     near false q t =
         let w = low-place k x t in
         ap₂ _||_ (ap (λ (t : Bool). bit (2 ^ k + x) m && t) (w .low) ∙ and-true (bit (2 ^ k + x) m)) (none w (decLe (2 ^ k) x))
-        ∙ or-off (bit (2 ^ k + x) m) ∙ ap (λ (z : ℕ). bit z m) (sym (w .to))
+        ∙ or-false (bit (2 ^ k + x) m) ∙ ap (λ (z : ℕ). bit z m) (sym (w .to))
 
 -- ---- the bits of a vector one after the other
 

@@ -1,35 +1,29 @@
 -- Laws of the test for a prime by masks: it is that of crate `cubes`, since a mask's count of ones is the number of its points.
 use mathlib.Core.Path.{_≡_, refl, sym, ap, ap₂, _∙_, subst, fun-ext}
-use mathlib.Core.Bool.{Bool, true, false, cond}
+use mathlib.Core.Bool.{Bool, true, false, not, cond}
 use mathlib.Core.Logic.{_≢_, inl, inr}
-use mathlib.Core.List.{List, [], _∷_, _++_}
+use mathlib.Core.List.{List, [], _∷_}
 use Prim.Native.Nat.{ℕ, zero, suc, _+_, _-_, _/_, _%_, _^_, _≤_, _<_}
 use native.Mathlib.Nat.{eq-or-lt-of-le, mod-lt, le-of-suc-le-suc}
 use native.Mathlib.Omega.{arith}
 use lib.Dec.{eqb}
 use lib.Pow.{pow-mono, pow-pos, split, shr-lt}
 use lib.Count.{ones, ones-cat}
-use lib.Bits.{bitAnd, bitOr}
-use lib.ListN.{length, replicate}
-use borrow.Author.Tests.{eqb-true, ltb-true}
-use Rattle.gf2.specs.Bits.{bit}
+use lib.Bits.{bitOr}
+use lib.ListN.{length}
+use Rattle.gf2.specs.Bits.{_⊕_, bit}
 use Rattle.gf2.specs.Finite.{select}
-use Rattle.gf2.specs.Basis.{reduce}
-use Rattle.gf2.proofs.Logic.{clash, same, and-l, and-r, or-cases}
-use Rattle.gf2.proofs.Xor.{bit-is}
+use Rattle.gf2.proofs.Logic.{clash, same, and-l, or-cases}
+use Rattle.gf2.proofs.Xor.{bit-is, bit-turned, two-digits}
 use Rattle.gf2.proofs.Finite.{select-ext, select-off}
 use Rattle.table.proofs.Table.{refuted}
-use Rattle.cubes.specs.Cubes.{IsCandidate}
 use Rattle.cubes.specs.Primes.{everyPoint, somePoint, allowed}
-use Rattle.cubes.specs.Records.{recordOf}
 use Rattle.cubes.proofs.Cubes.{select-step, vectors-below}
-use Rattle.cubes.proofs.Candidates.{candidate-of}
-use Rattle.cubes.proofs.Spaces.{prime-count}
-use Rattle.bases.specs.Bases.{vectorsOf, maskOf, fitsEntry, takesPoint}
-use Rattle.bases.proofs.Masks.{mask-least, mask-below}
-use Rattle.bases.proofs.Table.{entry-mask, entry-reduced, entry-bytes}
-use Rattle.masks.specs.Points.{maskSize, OfPoints, Fitting, EveryPoint, SomePoint, primeBy}
-use Rattle.masks.specs.Entry.{candidateAt, EntryAt}
+use Rattle.cubes.proofs.Spaces.{some-every, every-ext, prime-count}
+use Rattle.bases.specs.Bases.{vectorsOf}
+use Rattle.bases.specs.Entry.{candidateAt, EntryAt}
+use Rattle.bases.proofs.Entry.{vectors-length, entry-candidate}
+use Rattle.masks.specs.Points.{maskSize, OfPoints, Fitting, EveryPoint, primeBy}
 use Rattle.masks.proofs.Bits.{bit-or, bit-cut}
 
 -- ---- the count of ones
@@ -62,39 +56,15 @@ select-cut f a (suc b) h z = elim (eq-or-lt-of-le h) [
   | inr l ↦ select-off f b (z b (le-of-suc-le-suc l)) ∙ select-cut f a b (le-of-suc-le-suc l) z
 ]
 
--- ---- an entry as a candidate
+-- ---- the test
 
-pub vectors-length : (d e : ℕ) → length (vectorsOf d e) ≡ d
-unfolding vectorsOf
-vectors-length zero e = refl
-vectors-length (suc d) e = ap suc (vectors-length d (e / 256))
+-- A digit is 0 where the bit is clear.
+digit-not : (m p : ℕ) → eqb (m / 2 ^ p % 2) 0 ≡ not (bit p m)
+digit-not m p = rw (bit-is p m) (two-digits (λ x y. eqb x 0 ≡ not (eqb x 1)) refl refl refl refl (m / 2 ^ p) 0)
 
 module _ {n d p e : ℕ} (k : EntryAt n d p e) where
-  six : d ≤ 6
-  six = omega (arith, k .few, k .short)
-
-  pub entry-candidate : IsCandidate n (candidateAt d p e)
-  unfolding takesPoint
-  entry-candidate =
-      let t = k .taken in
-      let r = entry-reduced d e six (k .listed) in
-      let q = entry-mask d e six (k .listed) in
-      let b = ltb-true (maskOf e) (2 ^ n) (and-l (fitsEntry n e) (eqb (bitAnd p (maskOf e)) 0) t) in
-      let z = and-r (fitsEntry n e) (eqb (bitAnd p (maskOf e)) 0) t in
-      candidate-of n p (vectorsOf d e) r (mask-below n (vectorsOf d e) r .0 (subst (λ (x : ℕ). x < 2 ^ n) q b)) (k .point)
-      (eqb-true (reduce (vectorsOf d e) p) p (sym (mask-least (vectorsOf d e) r p) ∙ ap (λ (x : ℕ). eqb (bitAnd p x) 0) (sym q) ∙ z))
-
   pub entry-fitting : Fitting (vectorsOf d e)
-  entry-fitting c m = omega (arith, vectors-below n (candidateAt d p e) entry-candidate c m, pow-mono (k .few))
-
-  pub entry-record : d ∷ p ∷ vectorsOf 6 e ≡ recordOf (candidateAt d p e)
-  unfolding recordOf
-  entry-record =
-      let q : 6 - d ≡ 8 - (2 + d) = omega arith in
-      ap (λ l. d ∷ p ∷ l) (entry-bytes d e six (k .listed) ∙ ap (λ (z : ℕ). vectorsOf d e ++ replicate z 0) q)
-      ∙ ap (λ (z : ℕ). z ∷ p ∷ vectorsOf d e ++ replicate (8 - (2 + z)) 0) (sym (vectors-length d e))
-
-  -- ---- the test
+  entry-fitting c m = omega (arith, vectors-below n (candidateAt d p e) (entry-candidate k) c m, pow-mono (k .few))
 
   module _ (on free inside : ℕ) (a : OfPoints n on) (b : OfPoints n free) (l : inside < 2 ^ maskSize) (v : EveryPoint (vectorsOf d e) (bitOr on free) inside) where
     S : ℕ → Bool
@@ -128,21 +98,28 @@ module _ {n d p e : ℕ} (k : EntryAt n d p e) where
     pub prime-out : inside / 2 ^ p % 2 ≡ 0 → false ≡ primeBy n on free (candidateAt d p e)
     unfolding S
     prime-out h = sym (refuted (primeBy n on free (candidateAt d p e)) (λ t.
-        clash (bit-read inside ∙ inside-at p ∙ prime-count n (λ x. bit x on) (λ x. bit x free) (candidateAt d p e) entry-candidate .0 t .0) (ap (λ (z : ℕ). eqb z 1) h)))
+        clash (bit-read inside ∙ inside-at p ∙ prime-count n (λ x. bit x on) (λ x. bit x free) (candidateAt d p e) (entry-candidate k) .0 t .0) (ap (λ (z : ℕ). eqb z 1) h)))
 
     pub prime-more : ones inside ≢ 2 ^ d → false ≡ primeBy n on free (candidateAt d p e)
     unfolding S
     prime-more h = sym (refuted (primeBy n on free (candidateAt d p e)) (λ t.
-        h (ones-inside ∙ prime-count n (λ x. bit x on) (λ x. bit x free) (candidateAt d p e) entry-candidate .0 t .2 ∙ ap (λ (z : ℕ). 2 ^ z) (vectors-length d e))))
+        h (ones-inside ∙ prime-count n (λ x. bit x on) (λ x. bit x free) (candidateAt d p e) (entry-candidate k) .0 t .2 ∙ ap (λ (z : ℕ). 2 ^ z) (vectors-length d e))))
 
-    pub prime-held : inside / 2 ^ p % 2 ≢ 0 → ones inside ≡ 2 ^ d → (held : ℕ) → SomePoint (vectorsOf d e) on held
-        → eqb (held / 2 ^ p % 2) 1 ≡ primeBy n on free (candidateAt d p e)
+    -- The coset holds an on point exactly if not all of it lies outside the on points.
+    held-not : (outside : ℕ) → EveryPoint (vectorsOf d e) (on ⊕ (2 ^ maskSize - 1)) outside → somePoint (λ x. bit x on) (vectorsOf d e) p ≡ not (bit p outside)
+    held-not outside w =
+        some-every (λ x. bit x on) (vectorsOf d e) p
+        ∙ ap not (sym (w p ∙ every-ext 6 (λ y. bit y (on ⊕ (2 ^ maskSize - 1))) (λ y. not (bit y on)) (λ y h. bit-turned maskSize y on h) (vectorsOf d e) entry-fitting p
+        (omega (arith, k .point, pow-mono (k .few)))))
+
+    pub prime-held : inside / 2 ^ p % 2 ≢ 0 → ones inside ≡ 2 ^ d → (outside : ℕ) → EveryPoint (vectorsOf d e) (on ⊕ (2 ^ maskSize - 1)) outside
+        → eqb (outside / 2 ^ p % 2) 0 ≡ primeBy n on free (candidateAt d p e)
     unfolding S
-    prime-held h o held w =
-        let q = prime-count n (λ x. bit x on) (λ x. bit x free) (candidateAt d p e) entry-candidate in
+    prime-held h o outside w =
+        let q = prime-count n (λ x. bit x on) (λ x. bit x free) (candidateAt d p e) (entry-candidate k) in
         let one : inside / 2 ^ p % 2 ≡ 1 = omega (arith, h) in
         let i : everyPoint S (vectorsOf d e) p ≡ true = sym (bit-read inside ∙ inside-at p) ∙ ap (λ (z : ℕ). eqb z 1) one in
-        let s : eqb (held / 2 ^ p % 2) 1 ≡ somePoint (λ x. bit x on) (vectorsOf d e) p = bit-read held ∙ w p in
-        same (eqb (held / 2 ^ p % 2) 1) (primeBy n on free (candidateAt d p e))
+        let s : eqb (outside / 2 ^ p % 2) 0 ≡ somePoint (λ x. bit x on) (vectorsOf d e) p = digit-not outside p ∙ sym (held-not outside w) in
+        same (eqb (outside / 2 ^ p % 2) 0) (primeBy n on free (candidateAt d p e))
         (λ t. q .1 (i, sym s ∙ t, sym ones-inside ∙ o ∙ ap (λ (z : ℕ). 2 ^ z) (sym (vectors-length d e))))
         (λ t. s ∙ q .0 t .1)

@@ -1,4 +1,4 @@
--- Sets of points as masks: bit x of a mask stands for point x. Read next: Entry.
+-- Sets of points as masks: bit x of a mask stands for point x (document 01, "Primes").
 use mathlib.Core.Path.{_≡_}
 use mathlib.Core.Bool.{Bool, true}
 use mathlib.Core.List.{List, [], _∷_}
@@ -7,7 +7,7 @@ use lib.ListN.{getD}
 use Rattle.gf2.specs.Bits.{_⊕_, bit}
 use Rattle.gf2.specs.Finite.{Mem, holds}
 use Rattle.cubes.specs.Cubes.{Candidate}
-use Rattle.cubes.specs.Primes.{everyPoint, somePoint, isPrime}
+use Rattle.cubes.specs.Primes.{everyPoint, isPrime}
 
 -- The number of places of a mask, which is that of the points of six variables.
 abbrev pub maskSize : ℕ
@@ -34,12 +34,9 @@ Moved v mask r = (x : ℕ) → bit x r ≡ bit (x ⊕ v) mask
 abbrev pub Fitting : List ℕ → Type 0
 Fitting vectors = (c : ℕ) → Mem c vectors → c < maskSize
 
--- The mask r holds x exactly if the mask holds every point, or some point, of x XOR the span of the vectors.
+-- The mask r holds x exactly if the mask holds every point of x XOR the span of the vectors.
 abbrev pub EveryPoint : List ℕ → ℕ → ℕ → Type 0
 EveryPoint vectors mask r = (x : ℕ) → bit x r ≡ everyPoint (λ y. bit y mask) vectors x
-
-abbrev pub SomePoint : List ℕ → ℕ → ℕ → Type 0
-SomePoint vectors mask r = (x : ℕ) → bit x r ≡ somePoint (λ y. bit y mask) vectors x
 
 -- The candidate is a prime of the on and free points that two masks hold.
 abbrev pub primeBy : ℕ → ℕ → ℕ → Candidate → Bool

@@ -5,7 +5,7 @@ ghost use Prim.Native.Nat.{_^_, _<_, _*_, _/_, _%_};
 ghost use Rattle.table.specs.Table.{outside};
 ghost use Rattle.cubes.specs.Records.{maxListed};
 ghost use Rattle.bases.specs.Bases.{vectorsOf};
-ghost use Rattle.masks.specs.Points.{maskSize, MaskOf, lowPlaces, Moved, Fitting, EveryPoint, SomePoint};
+ghost use Rattle.masks.specs.Points.{maskSize, MaskOf, lowPlaces, Moved, Fitting, EveryPoint};
 
 // The mask of a list of points.
 pub fn mask_of(points: &[u16]) -> u64
@@ -87,20 +87,4 @@ pub fn every_point(mask: u64, entry: u64, d: usize) -> u64
         left -= 1;
     }
     every
-}
-
-// The points whose coset of the space of an entry of d vectors has a point in the mask.
-pub fn some_point(mask: u64, entry: u64, d: usize) -> u64
-    requires { ⌜ Fitting (vectorsOf d entry) ⌝ }
-    ensures { λ r. ⌜ SomePoint (vectorsOf d entry) mask r ⌝ }
-{
-    let mut some = mask;
-    let mut rest = entry;
-    let mut left = d;
-    while left > 0 {
-        some = some | moved(some, rest % 256);
-        rest = rest / 256;
-        left -= 1;
-    }
-    some
 }

@@ -1,7 +1,7 @@
 -- Laws of specs.Product: each test says what document 01, "The written form", does, and a product may be read from the left, one factor at a
 -- time. Read next: Count.
 use mathlib.Core.Path.{_≡_, refl, sym, ap, _∙_, subst}
-use mathlib.Core.Bool.{Bool, true, false, not, _&&_, _||_, Bool·beq}
+use mathlib.Core.Bool.{Bool, true, false, not, _&&_, Bool·beq, and-assoc}
 use mathlib.Core.Logic.{inl, inr, _↔_}
 use mathlib.Core.List.{List, [], _∷_, _++_}
 use Prim.Native.Nat.{ℕ, zero, suc, _^_, _<_}
@@ -14,17 +14,13 @@ use borrow.Author.Tests.{ltb-true, lt-ltb, leb-true, le-leb, not-true}
 use Rattle.gf2.specs.Bits.{bit}
 use Rattle.gf2.specs.Finite.{Mem, Ordered}
 use Rattle.gf2.specs.Parity.{odd}
-use Rattle.gf2.proofs.Logic.{clash, and-l, and-r, and-i, and-true, or-l, or-r, or-cases, beq-eq, eq-beq}
+use Rattle.gf2.proofs.Logic.{clash, and-l, and-r, and-i, and-true, and-exchange, or-l, or-r, or-cases, beq-eq, eq-beq}
 use Rattle.gf2.proofs.Finite.{getD-mem}
 use Rattle.product.specs.Lowest.{lowest}
 use Rattle.product.specs.Product.{Factor, factor, every, factorAt, productAt, someProductAt, Fits, fits, maskAt, Canonical, Apart, apartMasks, apart, canonical, agrees}
 use Rattle.product.proofs.LowestBit.{lowest-below, lowest-fits}
 
 -- ---- every element of a list
-
-and-assoc : (a b c : Bool) → (a && b) && c ≡ a && (b && c)
-and-assoc true b c = refl
-and-assoc false b c = refl
 
 pub every-is : {A : Type 0} (t : A → Bool) (l : List A) → (every t l ≡ true) ↔ ((x : A) → Mem x l → t x ≡ true)
 every-is t [] = (λ e x m. absurd m, λ h. refl)
@@ -194,30 +190,13 @@ canonical-is fs = (λ e. separate-canonical fs (canonical-separate fs .0 e), λ 
 
 -- ---- read from the left
 
-pub agrees-is : (fs : List Factor) (g : Factor) → (agrees fs g ≡ true) ↔ ((f : Factor) → Mem f fs → Apart (f .mask) (g .mask))
-unfolding agrees apart
-agrees-is fs g = (
-  λ e f m. apart-is (f .mask) (g .mask) .0 (every-is (λ k. apart k g) fs .0 e f m),
-  λ h. every-is (λ k. apart k g) fs .1 (λ f m. apart-is (f .mask) (g .mask) .1 (h f m)),
-)
-
-exchange : (a b c d : Bool) → (a && b) && (c && d) ≡ (a && c) && (b && d)
-exchange false b c d = refl
-exchange true false true d = refl
-exchange true false false d = refl
-exchange true true c d = refl
-
-or-assoc : (a b c : Bool) → (a || b) || c ≡ a || (b || c)
-or-assoc true b c = refl
-or-assoc false b c = refl
-
 -- One factor more.
 pub canonical-next : (fs : List Factor) (g : Factor) → canonical (fs ++ (g ∷ [])) ≡ canonical fs && agrees fs g
 unfolding canonical agrees
 canonical-next [] g = refl
 canonical-next (f ∷ fs) g =
     rw (every-append (apart f) fs (g ∷ []), canonical-next fs g, and-true (apart f g))
-    (exchange (every (apart f) fs) (apart f g) (canonical fs) (agrees fs g))
+    (and-exchange (every (apart f) fs) (apart f g) (canonical fs) (agrees fs g))
 
 -- Prefixes of canonical products are canonical.
 pub canonical-prefix : (fs gs : List Factor) → canonical (fs ++ gs) ≡ true → canonical fs ≡ true
@@ -226,8 +205,3 @@ canonical-prefix [] gs e = refl
 canonical-prefix (f ∷ fs) gs e = and-i (every (apart f) fs) (canonical fs)
     (and-l (every (apart f) fs) (every (apart f) gs) (sym (every-append (apart f) fs gs) ∙ and-l (every (apart f) (fs ++ gs)) (canonical (fs ++ gs)) e))
     (canonical-prefix fs gs (and-r (every (apart f) (fs ++ gs)) (canonical (fs ++ gs)) e))
-
-pub some-product-append : (ps qs : List (List Factor)) (w : ℕ) → someProductAt (ps ++ qs) w ≡ someProductAt ps w || someProductAt qs w
-unfolding someProductAt
-some-product-append [] qs w = refl
-some-product-append (p ∷ ps) qs w = ap (λ t. productAt p w || t) (some-product-append ps qs w) ∙ sym (or-assoc (productAt p w) (someProductAt ps w) (someProductAt qs w))

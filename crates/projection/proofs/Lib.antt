@@ -1,4 +1,6 @@
 -- Laws about the definitions in specs/, for the proofs of the functions and of their callers; read in this order. Those that other crates
--- cite first: `kept-restriction`, `kept-all`, `projected-projection` (Masks), `least-reduced` (Steps).
+-- cite first: `kept-all`, `projected-projection` (Masks), `least-reduced` (Steps), `points-kept`, `completed-vectors`, `completed-spans`,
+-- `completed-restriction` (Restrictions).
 pub mod Masks
 pub mod Steps
+pub mod Restrictions

@@ -4,18 +4,18 @@ use mathlib.Core.Path.{_≡_, refl, sym, ap, ap₂, _∙_}
 use mathlib.Core.Bool.{Bool, true, false, Bool·beq}
 use mathlib.Core.Logic.{_↔_}
 use mathlib.Core.List.{List, []}
-use Prim.Native.Nat.{ℕ, _^_, _≤_, _<_}
+use Prim.Native.Nat.{ℕ, _^_, _<_}
 use lib.Pow.{pow-pos}
 use lib.Bits.{xor-zero-r, xor-lt}
 use Rattle.gf2.specs.Bits.{_⊕_}
 use Rattle.gf2.specs.Finite.{Mem, select, In}
 use Rattle.gf2.specs.Span.{Span, Space}
 use Rattle.gf2.specs.Basis.{Reduced, inserts}
-use Rattle.gf2.proofs.Logic.{clash, beq-eq, eq-beq}
-use Rattle.gf2.proofs.Finite.{all-at, all-of, all-not, all-ext}
+use Rattle.gf2.proofs.Logic.{beq-eq, eq-beq}
+use Rattle.gf2.proofs.Finite.{all-at, all-of, all-ext}
 use Rattle.gf2.proofs.Xor.{xor-assoc}
-use Rattle.gf2.proofs.ReducedBasis.{basis-reduced, basis-below, basis-length, basis-span, basis-unique, basis-select, basis-ext}
-use Rattle.space.specs.Closure.{closed, linearSpace, degree}
+use Rattle.gf2.proofs.ReducedBasis.{basis-reduced, basis-below, basis-span, basis-unique, basis-select, basis-ext}
+use Rattle.space.specs.Closure.{closed, linearSpace}
 
 -- ---- closed under a: for every w below 2 ^ n, f (w ⊕ a) is f w
 
@@ -34,12 +34,6 @@ closed-broken n f a w h g = go (closed n f a) refl
     go : (t : Bool) → closed n f a ≡ t → t ≡ false
     go false e = refl
     go true e = absurd (g (closed-at n f a e w h))
-
-pub closed-witness : (n : ℕ) (f : ℕ → Bool) (a : ℕ) → closed n f a ≡ false → (w : ℕ) × (w < 2 ^ n) × (f (w ⊕ a) ≡ f w → ⊥)
-unfolding closed
-closed-witness n f a e =
-    let k = all-not (λ w. Bool·beq (f (w ⊕ a)) (f w)) (2 ^ n) e in
-    (k .0, k .1, λ q. clash (eq-beq (f (k .0 ⊕ a)) (f (k .0)) q) (k .2))
 
 -- ---- these vectors are a space
 
@@ -66,10 +60,6 @@ linear-span n f = basis-span n (closed n f) (closed-space n f)
 pub linear-below : (n : ℕ) (f : ℕ → Bool) (b : ℕ) → Mem b (linearSpace n f) → b < 2 ^ n
 unfolding linearSpace
 linear-below n f = basis-below n (closed n f)
-
-pub degree-le : (n : ℕ) (f : ℕ → Bool) → degree n f ≤ n
-unfolding degree linearSpace
-degree-le n f = basis-length n (closed n f)
 
 -- It is the only reduced basis that spans these vectors.
 pub linear-unique : (n : ℕ) (f : ℕ → Bool) (bs : List ℕ) → Reduced bs → ((x : ℕ) → Span bs x ↔ In n (closed n f) x) → bs ≡ linearSpace n f

@@ -6,7 +6,7 @@ use mathlib.Core.List.{List, [], _∷_, _++_, map}
 use Prim.Native.Nat.{ℕ, suc, _+_, _*_, _^_, _<_}
 use native.Mathlib.Nat.{add-mul, mul-assoc, one-mul, zero-mul, pow-suc}
 use native.Mathlib.Omega.{arith}
-use lib.ListN.{length, length-append, take, getD}
+use lib.ListN.{length, take, getD}
 use lib.Seq.{take-suc}
 use lib.Dec.{eqb}
 use lib.Bits.{bitAnd, xor-comm, xor-self}
@@ -24,16 +24,6 @@ use Rattle.space.proofs.Restriction.{number-step, clean-at, clean-of}
 use Rattle.gf2.proofs.Finite.{map-take}
 
 -- ---- numbers bit by bit, the highest first
-
--- One bit more at the end.
-pub number-snoc : (ts : List Bool) (t : Bool) → number (ts ++ (t ∷ [])) ≡ 2 * number ts + cond t 1 0
-unfolding number
-number-snoc [] true = refl
-number-snoc [] false = refl
-number-snoc (true ∷ ts) t =
-    let e : length (ts ++ (t ∷ [])) ≡ suc (length ts) = omega (arith, length-append ts (t ∷ [])) in
-    rw e (omega (arith, number-snoc ts t))
-number-snoc (false ∷ ts) t = omega (arith, number-snoc ts t)
 
 -- One bit more at the front.
 pub project-cons : (k : ℕ) (ks : List ℕ) (w : ℕ) → project (k ∷ ks) w ≡ cond (bit k w) (2 ^ length ks) 0 + project ks w

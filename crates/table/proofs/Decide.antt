@@ -1,13 +1,14 @@
 -- Laws of one decision over a list of tests: what is given where none applies, where an early one does, and where only the last does. Read next: Fill.
 use mathlib.Core.Path.{_≡_, refl, sym, ap, _∙_}
+use mathlib.Core.Bool.{Bool, true, false}
 use mathlib.Core.Logic.{_≢_}
-use mathlib.Core.List.{List, _++_}
+use mathlib.Core.List.{List, [], _∷_, _++_}
 use Prim.Native.Nat.{ℕ, _≤_, _<_}
 use native.Mathlib.Decide.{ℕ-discrete}
 use native.Mathlib.Omega.{arith}
 use lib.ListN.{length}
 use borrow.Author.Tests.{eq-eqb, ne-eqb, lt-ltb, le-ltb}
-use Rattle.table.specs.Refusal.{Test, firstFault, Numbered, Exact, roomFault}
+use Rattle.table.specs.Refusal.{Test, test, firstFault, Numbered, Exact, roomFault}
 use Rattle.table.proofs.Refusal.{fault-first, no-fault, fault-append, fault-before}
 use Rattle.table.specs.Decision.{decide, front, roomAfter, roomTest}
 
@@ -42,6 +43,16 @@ module _ (ts us : List Test) where
   -- A sound table leaves the decision to the other tests.
   pub table-passed : Numbered ts → firstFault ts ≡ 0 → firstFault (ts ++ us) ≡ firstFault us
   table-passed h e = fault-append ts us h e
+
+-- One test more, behind those of the table: it applies, or not.
+module _ (ts : List Test) (h : Numbered ts) (e : firstFault ts ≡ 0) (number : ℕ) (applies : Bool) where
+  pub then-applies : applies ≡ true → firstFault (ts ++ (test number applies ∷ [])) ≡ number
+  unfolding firstFault
+  then-applies t = table-passed ts (test number applies ∷ []) h e ∙ rw t
+
+  pub then-none : applies ≡ false → firstFault (ts ++ (test number applies ∷ [])) ≡ 0
+  unfolding firstFault
+  then-none t = table-passed ts (test number applies ∷ []) h e ∙ rw t
 
 -- The last test: an answer that is longer than its room.
 pub room-short : {A : Type 0} (answer room : List A) → length room < length answer → firstFault (roomTest answer room) ≡ roomFault

@@ -1,12 +1,12 @@
 -- Lent room filled from the front, one element at each turn of a loop, for any kind of element. Every function that writes a list cites these.
--- Read next: Table.
+-- Read next: Selecting.
 use mathlib.Core.Path.{_≡_, sym, ap, _∙_, subst}
 use mathlib.Core.List.{List, [], _∷_, _++_}
-use Prim.Native.Nat.{ℕ, suc, _+_, _≤_, _<_}
+use Prim.Native.Nat.{ℕ, suc, _+_, _-_, _≤_, _<_}
 use native.Mathlib.Numerals.{add-one}
 use native.Mathlib.Omega.{arith}
 use lib.ListN.{length, take, drop, set, getD, length-append, length-take, length-drop}
-use lib.Seq.{take-suc, take-all, drop-cons, append-snoc, set-append-seam, length-take-le}
+use lib.Seq.{take-suc, take-all, take-append-seam, drop-cons, append-snoc, set-append-seam, length-take-le}
 use Rattle.table.specs.Decision.{front}
 
 -- The element stored behind those that are written already.
@@ -21,6 +21,14 @@ fill-push {A} done room a h =
 -- The room keeps its length.
 pub fill-length : {A : Type 0} (done room : List A) → length done ≤ length room → length (front done room) ≡ length room
 fill-length done room h = omega (arith, length-append done (drop (length done) room), length-drop (length done) room)
+
+-- As many entries of the room as the list has are there, and they are the list.
+module _ {A : Type 0} (done room after : List A) (count : ℕ) (e : after ≡ front done room) (n : count ≡ length done) where
+  pub front-fits : count ≤ length after
+  front-fits = omega (arith, ap length e, length-append done (drop (length done) room))
+
+  pub front-part : take (count - 0) after ≡ done
+  front-part = let z : count - 0 ≡ length done = omega arith in rw (e, z) (take-append-seam done (drop (length done) room))
 
 -- Where the whole answer is known: its i first elements are written, and one more.
 pub fill-next : {A : Type 0} (answer room : List A) (i : ℕ) (d : A) → i < length answer → i < length room

@@ -1,56 +1,44 @@
 -- The parts of specs.Parts make up the report, and what the functions that write them need to know of each other. Read next: Fitting.
-use mathlib.Core.Path.{_≡_, refl, sym, ap, _∙_, subst}
+use mathlib.Core.Path.{_≡_, refl, sym, ap, ap₂, _∙_, subst}
 use mathlib.Core.Bool.{Bool}
 use mathlib.Core.List.{List, [], _∷_, _++_, append-assoc, append-nil, map, zipWith, flatMap}
-use Prim.Native.Nat.{ℕ, zero, suc, _+_, _-_, _^_, _≤_, _<_}
+use Prim.Native.Nat.{ℕ, zero, suc, _-_, _≤_, _<_}
 use native.Mathlib.Omega.{arith}
 use lib.Pow.{pow-mono}
-use lib.ListN.{length, take, drop, length-map}
-use lib.Seq.{take-at}
+use lib.ListN.{length, take, length-map}
 use borrow.Author.Tests.{lt-ltb, le-ltb}
-use Rattle.gf2.specs.Finite.{Mem}
-use Rattle.gf2.specs.Basis.{leadMask}
 use Rattle.basis.specs.declared.Basis.{Basis}
 use Rattle.basis.specs.declared.ShortList.{ShortList}
 use Rattle.basis.specs.Short.{listed, short}
-use Rattle.basis.specs.Reduced.{vectorsOf}
-use Rattle.basis.proofs.Values.{short-listed, short-part, short-fits, vectors-back}
+use Rattle.basis.specs.Reduced.{vectorsOf, Spans}
+use Rattle.basis.proofs.Values.{basis-len, short-listed, short-part, short-fits}
 use Rattle.table.specs.Refusal.{sizeFault}
-use Rattle.table.specs.Decision.{front}
-use Rattle.table.specs.Table.{Accepted}
 use Rattle.table.specs.Flags.{maxPoints}
-use Rattle.table.proofs.Fill.{fill-length}
-use Rattle.table.proofs.Table.{not-outside, not-unordered}
 use Rattle.space.specs.Closure.{linearSpace, degree}
 use Rattle.space.specs.declared.Completed.{Completed}
 use Rattle.space.specs.Completion.{completed, IsCompleted}
 use Rattle.space.specs.Witness.{flagged}
-use Rattle.space.proofs.Closure.{linear-below}
 use Rattle.space.specs.Restriction.{equations, restriction}
-use Rattle.space.proofs.Restriction.{equations-length, restriction-below, restriction-rising, restriction-ext}
 use Rattle.projection.specs.Masks.{kept}
-use Rattle.projection.proofs.Masks.{kept-length, kept-restriction}
+use Rattle.projection.proofs.Masks.{kept-length}
+use Rattle.projection.proofs.Restrictions.{points-inside, points-rise, completed-vectors, completed-restriction}
 use Rattle.product.specs.Product.{Factor, factor}
 use Rattle.cubes.specs.Cubes.{Candidate}
 use Rattle.cubes.specs.Records.{maxListed}
-use Rattle.cover.specs.WrittenForm.{restrictedVariables, writtenProduct, formOf, writtenForm, formSizeFault}
+use Rattle.cover.specs.WrittenForm.{restrictedVariables, productBy, writtenProduct, formOf, writtenForm, formSizeFault}
 use Rattle.factors.specs.declared.FactorList.{FactorList}
 use Rattle.factors.specs.Factors.{factorsOf}
+use Rattle.factors.proofs.Products.{zip-back}
 use Rattle.choice.specs.declared.Choice.{Choice}
-use Rattle.choice.specs.Chosen.{chosenAt, chosenBy, Chose}
+use Rattle.choice.specs.Chosen.{chosenAt, chosenBy, productsBy, Chose}
+use Rattle.choice.proofs.Products.{productAt, products-next}
 use Rattle.text.proofs.Pieces.{pieces}
 use Rattle.lines.specs.Words.{variablesWord}
 use Rattle.lines.specs.Lines.{numberLine, countsLine, productLine, productLines}
 use Rattle.table_report.specs.Text.{refusedLine, formText, tableText}
-use Rattle.table_report.specs.Parts.{productBy, choiceText, Writable, formLines, functionText, Spans, Restricts}
+use Rattle.table_report.specs.Parts.{choiceText, formLines, functionText, Restricts}
 
--- A product is the pairs of its constants and its masks.
-pub zip-back : (fs : List Factor) → zipWith factor (map (λ f. f .constant) fs) (map (λ f. f .mask) fs) ≡ fs
-unfolding zipWith
-zip-back [] = refl
-zip-back (f ∷ fs) = ap (λ (l : List Factor). f ∷ l) (zip-back fs)
-
--- The same of a product by value.
+-- A product by value is the pairs of its constants and its masks.
 module _ (r : FactorList) (fs : List Factor) (e : r ≡ factorsOf fs) where
   constants-part : take (r .constants .len - 0) (r .constants .values) ≡ map (λ f. f .constant) fs
   constants-part = short-part (r .constants) (map (λ f. f .constant) fs) (ap (λ (x : FactorList). x .constants) e)
@@ -77,20 +65,16 @@ unfolding flatMap
 flat-last f [] a = append-nil (f a)
 flat-last f (b ∷ l) a = ap (λ (r : List ℕ). f b ++ r) (flat-last f l a) ∙ sym (append-assoc (f b) (flatMap f l) (f a))
 
-map-last : (f : Candidate → List Factor) (l : List Candidate) (c : Candidate) → map f (l ++ (c ∷ [])) ≡ map f l ++ (f c ∷ [])
-map-last f [] c = refl
-map-last f (b ∷ l) c = ap (λ (r : List (List Factor)). f b ∷ r) (map-last f l c)
-
 pub choice-pieces : (n : ℕ) (es : List ℕ) (m : ℕ) (r : Choice) → choiceText n es m r ≡ pieces (λ i. productLine n (productBy es m (chosenAt r i))) (r .count)
-unfolding choiceText productLines chosenBy flatMap
+unfolding choiceText productLines productsBy chosenBy flatMap
 choice-pieces n es m r = go (r .count)
   where
-    go : (k : ℕ) → flatMap (productLine n) (map (productBy es m) (chosenBy r k)) ≡ pieces (λ i. productLine n (productBy es m (chosenAt r i))) k
+    go : (k : ℕ) → flatMap (productLine n) (productsBy es m r k) ≡ pieces (λ i. productLine n (productBy es m (chosenAt r i))) k
     go zero = refl
     go (suc k) =
-        ap (flatMap (productLine n)) (map-last (productBy es m) (chosenBy r k) (chosenAt r k))
-        ∙ flat-last (productLine n) (map (productBy es m) (chosenBy r k)) (productBy es m (chosenAt r k))
-        ∙ ap (λ (t : List ℕ). t ++ productLine n (productBy es m (chosenAt r k))) (go k)
+        ap (flatMap (productLine n)) (products-next es m r k)
+        ∙ flat-last (productLine n) (productsBy es m r k) (productAt es m r k)
+        ∙ ap (λ (t : List ℕ). t ++ productLine n (productAt es m r k)) (go k)
 
 -- The lines of the form.
 module _ (n : ℕ) (bs points : List ℕ) where
@@ -100,12 +84,9 @@ module _ (n : ℕ) (bs points : List ℕ) where
 
   pub form-chosen : restrictedVariables n bs ≤ maxListed → (r : Choice) → Chose (restrictedVariables n bs) points r
       → choiceText n (equations n bs) (restrictedVariables n bs) r ≡ formLines n bs points
-  unfolding formLines choiceText writtenProduct
+  unfolding formLines choiceText productsBy writtenProduct
   form-chosen h r k =
       rw (le-ltb maxListed (restrictedVariables n bs) h) (ap (λ (l : List Candidate). productLines n (map (productBy (equations n bs) (restrictedVariables n bs)) l)) (k .same))
-
-pub chose-writable : {m : ℕ} {points : List ℕ} {r : Choice} → Chose m points r → Writable m r
-chose-writable k = record { few = k .few; entry = k .entry }
 
 -- The report of a table.
 pub table-parts : (n : ℕ) (on free : List ℕ) → tableText n on free
@@ -117,24 +98,12 @@ table-parts n on free = refl
 -- ---- a basis of n variables
 
 module _ {n : ℕ} {b : Basis} (s : Spans n b) where
-  pub spans-len : b .len ≡ length (vectorsOf b)
-  spans-len = ap (λ (x : Basis). x .len) (s .basis .packed)
-
-  variables-left : length (equations n (vectorsOf b)) + b .len ≡ n
-  variables-left = omega (arith, spans-len, equations-length n (vectorsOf b) (s .basis .reduced) (s .below))
-
-  pub spans-few : b .len ≤ n
-  spans-few = omega (arith, variables-left)
+  spans-len : b .len ≡ length (vectorsOf b)
+  spans-len = basis-len b (s .basis)
 
   -- The restriction by it.
   pub restricts : (f : ℕ → Bool) → Restricts n b (restriction n (vectorsOf b) f)
-  restricts f =
-      let left : length (equations n (vectorsOf b)) ≡ n - b .len = omega (arith, variables-left) in
-      record {
-        spans = s;
-        inside = not-outside (n - b .len) (restriction n (vectorsOf b) f) (λ y m. subst (λ (k : ℕ). y < 2 ^ k) left (restriction-below n (vectorsOf b) f y m));
-        rising = not-unordered (restriction n (vectorsOf b) f) (restriction-rising n (vectorsOf b) f);
-      }
+  restricts f = record { spans = s; inside = points-inside s f; rising = points-rise s f }
 
   -- The form's lines by the basis.
   pub basis-refused : (points : List ℕ) → maxListed < n - b .len → refusedLine sizeFault ≡ formLines n (vectorsOf b) points
@@ -148,40 +117,12 @@ module _ {n : ℕ} {b : Basis} (s : Spans n b) where
       ∙ subst (λ (j : ℕ). n - j ≤ maxListed → Chose (n - j) points r → choiceText n (equations n (vectorsOf b)) (n - j) r ≡ formLines n (vectorsOf b) points) e
       (λ l m. form-chosen n (vectorsOf b) points l r m) h k
 
-  -- What its lead mask keeps is the restriction.
-  pub flags-kept : (f : ℕ → Bool) (leads : ℕ) → leads ≡ leadMask (vectorsOf b) → kept n leads f ≡ restriction n (vectorsOf b) f
-  flags-kept f leads e = ap (λ (m : ℕ). kept n m f) e ∙ kept-restriction n (vectorsOf b) (s .basis .reduced) f
-
   pub kept-few : (f : ℕ → Bool) (leads : ℕ) → length (kept n leads f) ≤ maxPoints
   kept-few f leads = omega (arith, kept-length n leads f, pow-mono (s .few))
 
 -- ---- the completed function
 
-module _ {n : ℕ} {on free : List ℕ} {r : Completed} (a : Accepted n on free) (k : IsCompleted n on free r) where
-  space-vectors : vectorsOf (r .basis) ≡ linearSpace n (completed n on free)
-  space-vectors = ap vectorsOf (k .basis .value) ∙ vectors-back (linearSpace n (completed n on free))
-
-  pub completed-spans : Spans n (r .basis)
-  completed-spans = record {
-    few = a .few;
-    basis = k .basis .basis;
-    below = λ c m. linear-below n (completed n on free) c (subst (Mem c) space-vectors m);
-  }
-
-  pub completed-text : functionText n (linearSpace n (completed n on free)) (restriction n (linearSpace n (completed n on free)) (completed n on free))
-      ≡ functionText n (vectorsOf (r .basis)) (restriction n (vectorsOf (r .basis)) (flagged (r .flags)))
-  completed-text =
-      ap (functionText n (linearSpace n (completed n on free)))
-      (sym (restriction-ext n (linearSpace n (completed n on free)) (flagged (r .flags)) (completed n on free) (k .flags)))
-      ∙ ap (λ (bs : List ℕ). functionText n bs (restriction n bs (flagged (r .flags)))) (sym space-vectors)
-
--- ---- a list at the front of a local array
-
-module _ (answer lent after : List ℕ) (count : ℕ) (h : length answer ≤ length lent) (e : after ≡ front answer lent) (n : count ≡ length answer) where
-  pub front-fits : count ≤ length after
-  front-fits = omega (arith, ap length e, fill-length answer lent h)
-
-  pub front-part : take (count - 0) after ≡ answer
-  front-part =
-      let k : length answer ≡ count - 0 = omega arith in
-      rw e (take-at answer (drop (length answer) lent) (count - 0) k)
+pub completed-text : {n : ℕ} {on free : List ℕ} {r : Completed} → IsCompleted n on free r
+    → functionText n (linearSpace n (completed n on free)) (restriction n (linearSpace n (completed n on free)) (completed n on free))
+    ≡ functionText n (vectorsOf (r .basis)) (restriction n (vectorsOf (r .basis)) (flagged (r .flags)))
+completed-text {n} k = sym (ap₂ (functionText n) (completed-vectors k) (completed-restriction k))

@@ -2,7 +2,7 @@
 use basis::Basis;
 use basis::ShortList;
 use choice::Choice;
-use masks::MAX_LISTED;
+use cubes::MAX_LISTED;
 use table::MAX_POINTS;
 use table::SIZE_FAULT;
 ghost use mathlib.Core.Path.{_≡_};
@@ -10,16 +10,18 @@ ghost use Prim.Native.Nat.{_≤_};
 ghost use Rattle.gf2.specs.Limits.{maxVariables};
 ghost use Rattle.gf2.specs.Basis.{canonicalPlaces, variablesAt};
 ghost use Rattle.basis.specs.Short.{listed, short};
-ghost use Rattle.basis.specs.Reduced.{vectorsOf};
+ghost use Rattle.basis.specs.Reduced.{vectorsOf, Spans};
 ghost use Rattle.table.specs.Table.{Accepted};
 ghost use Rattle.space.specs.Restriction.{equations, restriction};
 ghost use Rattle.space.specs.Witness.{flagged};
-ghost use Rattle.masks.specs.Entry.{candidateAt, EntryAt};
+ghost use Rattle.bases.specs.Entry.{candidateAt, EntryAt};
+ghost use Rattle.cover.specs.WrittenForm.{productBy};
+ghost use Rattle.choice.specs.Chosen.{Candidates};
 ghost use Rattle.text.specs.Writing.{HasRoom, Wrote};
 ghost use Rattle.lines.specs.Words.{canonicalWord};
 ghost use Rattle.lines.specs.Lines.{numbersLine, equationLines, productLine};
 ghost use Rattle.table_report.specs.Text.{spaceText, tableText};
-ghost use Rattle.table_report.specs.Parts.{productBy, choiceText, Writable, formLines, functionText, Spans, Restricts};
+ghost use Rattle.table_report.specs.Parts.{choiceText, formLines, functionText, Restricts};
 
 // ---- the products
 
@@ -31,7 +33,7 @@ fn chosen_line(
     equations: ShortList,
     m: usize,
     d: usize,
-    point: u64,
+    point: u16,
     entry: u64,
 ) -> usize
     requires { ⌜ n ≤ maxVariables ⌝ }
@@ -61,7 +63,7 @@ fn choice_text(
 ) -> usize
     requires { ⌜ n ≤ maxVariables ⌝ }
     requires { ⌜ equations ≡ short (listed equations) ⌝ }
-    requires { ⌜ Writable m choice ⌝ }
+    requires { ⌜ Candidates m choice ⌝ }
     requires { ⌜ HasRoom (now room) at (choiceText n (listed equations) m choice) ⌝ }
     ensures { λ r. ⌜ Wrote (now (room .entry)) at (choiceText n (listed equations) m choice) (now (room .exit)) r ⌝ }
 {

@@ -12,8 +12,8 @@ use Rattle.cubes.specs.Lists.{keep}
 use Rattle.cubes.specs.Cubes.{Candidate}
 use Rattle.bases.specs.Entries.{entries}
 use Rattle.bases.specs.Bases.{stop, takesPoint}
-use Rattle.masks.specs.Entry.{candidateAt}
-use Rattle.masks.proofs.Bounds.{entries-length, bounds}
+use Rattle.bases.specs.Entry.{candidateAt}
+use Rattle.bases.proofs.Bounds.{entries-length, bounds}
 use Rattle.walk.specs.Places.{takenFrom, placed}
 
 -- The entries from place i on: the first, if it is taken, and those from the next place on.

@@ -14,13 +14,13 @@ use Rattle.cubes.specs.Lists.{keep}
 use Rattle.cubes.specs.Cubes.{Candidate}
 use Rattle.cubes.specs.Candidates.{points, candidatesAt, candidatesOf, candidatesFrom}
 use Rattle.bases.specs.Entries.{entries}
-use Rattle.bases.specs.Bases.{start, stop, entriesOf, takesPoint}
+use Rattle.bases.specs.Bases.{entryCount, start, stop, entriesOf, takesPoint}
 use Rattle.bases.proofs.Table.{entries-at}
 use Rattle.walk.specs.declared.Found.{Found}
 use Rattle.walk.specs.declared.Tally.{Tally}
 use Rattle.masks.specs.Points.{primeBy}
-use Rattle.masks.specs.Entry.{candidateAt, EntryAt}
-use Rattle.masks.proofs.Bounds.{bounds, entry-mem}
+use Rattle.bases.specs.Entry.{candidateAt, EntryAt}
+use Rattle.bases.proofs.Bounds.{bounds, entry-mem}
 use Rattle.walk.specs.Places.{placed, FirstTaken}
 use Rattle.walk.specs.Walk.{State, state, pass, walk}
 use Rattle.walk.proofs.Rows.{placed-taken}
@@ -124,7 +124,7 @@ module _ {n on free long : ℕ} {goal : State} {skip d p i : ℕ} {s : State} (t
   pub six : d ≤ 6
   six = omega (arith, t .few, t .short)
 
-  pub last : stop d ≤ 2825
+  pub last : stop d ≤ entryCount
   last = bounds d six .1
 
   pub small : p < 64

@@ -9,7 +9,7 @@ use Rattle.cubes.specs.Lists.{keep}
 use Rattle.cubes.specs.Cubes.{Candidate}
 use Rattle.bases.specs.Entries.{entries}
 use Rattle.bases.specs.Bases.{stop, takesPoint}
-use Rattle.masks.specs.Entry.{candidateAt}
+use Rattle.bases.specs.Entry.{candidateAt}
 use Rattle.walk.specs.declared.Found.{Found}
 
 -- The entries of d vectors from place i on that are taken with the point p.

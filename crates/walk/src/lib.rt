@@ -1,5 +1,7 @@
 // The walk over the candidates of a listing (document 01, "Primes"): degree, least point and entry of the table of bases, one after the other.
 // What the functions say of their results is in specs/, the laws about that in proofs/. Read next: crate `listing`.
+use bases::entries::ENTRY_COUNT;
+use cubes::RECORD_LENGTH;
 ghost use mathlib.Core.Path.{_≡_};
 ghost use mathlib.Core.List.{_∷_};
 ghost use Prim.Native.Nat.{_+_, _*_, _^_, _≤_, _<_};
@@ -10,12 +12,9 @@ ghost use Rattle.cubes.specs.Records.{maxListed, recordLength};
 ghost use Rattle.bases.specs.Entries.{entries};
 ghost use Rattle.bases.specs.Bases.{stop, vectorsOf};
 ghost use Rattle.masks.specs.Points.{OfPoints, primeBy};
-ghost use Rattle.masks.specs.Entry.{candidateAt, EntryAt};
+ghost use Rattle.bases.specs.Entry.{candidateAt, EntryAt};
 ghost use Rattle.walk.specs.Places.{FirstTaken};
 ghost use Rattle.walk.specs.Walk.{starting, passing, writing, stopping, state, pass, walk};
-
-// The number of bytes of a record, as `recordLength`.
-pub const RECORD_LENGTH: usize = 8;
 
 // ---- the entries of the table of bases
 
@@ -26,18 +25,18 @@ pub struct Found {
 }
 
 // The first place from i on whose entry is taken with p, after so many such entries that are skipped, or the end of the entries of d vectors.
-fn first_taken(table: &[u64; 2825], n: usize, d: usize, p: u64, i: usize, skip: u64) -> Found
+fn first_taken(table: &[u64; ENTRY_COUNT], n: usize, d: usize, p: u64, i: usize, skip: u64) -> Found
     requires { ⌜ now table ≡ entries ⌝ }
     requires { ⌜ n ≤ maxListed ⌝ }
     requires { ⌜ d ≤ maxListed ⌝ }
     requires { ⌜ i ≤ stop d ⌝ }
     ensures { λ r. ⌜ FirstTaken n d p i skip r ⌝ }
 {
-    let end = masks::stop_of(d);
+    let end = bases::stop_of(d);
     let mut at = i;
     let mut left = skip;
     while at < end {
-        if !masks::taken(n, p, table[at]) {
+        if !bases::taken(n, p, table[at]) {
             at += 1;
             continue;
         }
@@ -169,12 +168,12 @@ pub fn walk(
     };
     let mut d = degree;
     let mut p: u64 = 0;
-    let mut i = masks::start_of(d);
+    let mut i = bases::start_of(d);
     loop {
         let found = first_taken(&table, n, d, p, i, skip);
         skip = found.skip;
         let at = found.at;
-        if at < masks::stop_of(d) {
+        if at < bases::stop_of(d) {
             let entry = table[at];
             tally = pass(on, free, n, d, p, entry, tally, &mut *room);
             if tally.stopped {
@@ -185,7 +184,7 @@ pub fn walk(
         }
         p += 1;
         if p < (1 << n) {
-            i = masks::start_of(d);
+            i = bases::start_of(d);
             continue;
         }
         if d == 0 {
@@ -193,6 +192,6 @@ pub fn walk(
         }
         d -= 1;
         p = 0;
-        i = masks::start_of(d);
+        i = bases::start_of(d);
     }
 }

@@ -6,19 +6,16 @@ use native.Mathlib.Decide.{ℕ-discrete}
 use native.Mathlib.Omega.{arith}
 use lib.ListN.{length, set, getD, length-append}
 use lib.Seq.{sets}
-use Rattle.gf2.proofs.Finite.{map-snoc}
-use Rattle.product.specs.Product.{Factor}
 use Rattle.records.specs.Kinds.{variablesKind, encodeEnd}
 use Rattle.table.specs.Decision.{front}
 use Rattle.form.specs.Encoding.{encodeProducts, encodeForm}
 use Rattle.cubes.specs.Records.{maxListed}
-use Rattle.masks.proofs.PrimeTest.{vectors-length, entry-candidate}
-use Rattle.cover.specs.CanonicalProduct.{canonicalProduct}
-use Rattle.cover.specs.Substitution.{substituteProduct}
+use Rattle.bases.proofs.Entry.{vectors-length, entry-candidate}
 use Rattle.choice.specs.declared.Choice.{Choice}
-use Rattle.choice.specs.Chosen.{chosenAt, chosenBy}
+use Rattle.choice.specs.Chosen.{chosenAt, chosenBy, productsBy, Candidates}
+use Rattle.choice.proofs.Products.{productAt, products-next, products-count}
 use Rattle.factors.proofs.Products.{product-factors}
-use Rattle.writing.specs.Products.{Candidates, productsBy, productsLength, formLength}
+use Rattle.writing.specs.Products.{productsLength, formLength}
 use Rattle.writing.proofs.Bytes.{sets-append, sets-front, products-append, product-bytes}
 
 -- ---- the lengths alone
@@ -42,25 +39,11 @@ lengths-few m degrees (suc k) h = omega (arith, h (omega arith), lengths-few m d
 -- ---- the products of a choice
 
 module _ (es : List ℕ) (m : ℕ) (r : Choice) where
-  -- The product of the candidate at a place.
-  abbrev pub productAt : ℕ → List Factor
-  productAt i = substituteProduct es (canonicalProduct m (chosenAt r i))
-
-  -- One product more.
-  pub products-next : (i : ℕ) → productsBy es m r (suc i) ≡ productsBy es m r i ++ (productAt i ∷ [])
-  unfolding productsBy chosenBy
-  products-next i = map-snoc (λ c. substituteProduct es (canonicalProduct m c)) (chosenBy r i) (chosenAt r i)
-
-  pub products-count : (k : ℕ) → length (productsBy es m r k) ≡ k
-  unfolding productsBy chosenBy
-  products-count zero = refl
-  products-count (suc k) = ap length (products-next k) ∙ omega (arith, length-append (productsBy es m r k) (productAt k ∷ []), products-count k)
-
-  pub bytes-next : (i : ℕ) → encodeProducts (productsBy es m r (suc i)) ≡ encodeProducts (productsBy es m r i) ++ encodeProducts (productAt i ∷ [])
-  bytes-next i = ap encodeProducts (products-next i) ∙ products-append (productsBy es m r i) (productAt i ∷ [])
+  pub bytes-next : (i : ℕ) → encodeProducts (productsBy es m r (suc i)) ≡ encodeProducts (productsBy es m r i) ++ encodeProducts (productAt es m r i ∷ [])
+  bytes-next i = ap encodeProducts (products-next es m r i) ∙ products-append (productsBy es m r i) (productAt es m r i ∷ [])
 
   module _ (h : Candidates m r) where
-    pub product-length-at : (i : ℕ) → i < r .count → length (productAt i) ≡ m - getD (r .degrees) i 0
+    pub product-length-at : (i : ℕ) → i < r .count → length (productAt es m r i) ≡ m - getD (r .degrees) i 0
     product-length-at i l =
         product-factors es m (chosenAt r i) (entry-candidate (h .entry i l)) ∙ ap (λ (z : ℕ). m - z) (vectors-length (getD (r .degrees) i 0) (getD (r .entries) i 0))
 
@@ -72,9 +55,9 @@ module _ (es : List ℕ) (m : ℕ) (r : Choice) where
         ap length (bytes-next k)
         ∙ omega (
           arith,
-          length-append (encodeProducts (productsBy es m r k)) (encodeProducts (productAt k ∷ [])),
+          length-append (encodeProducts (productsBy es m r k)) (encodeProducts (productAt es m r k ∷ [])),
           products-length k (omega arith),
-          product-bytes (productAt k),
+          product-bytes (productAt es m r k),
         )
 
     pub form-bytes-length : (n : ℕ) → length (encodeForm (record { variables = n; products = productsBy es m r (r .count) })) ≡ formLength m r
@@ -94,5 +77,5 @@ module _ (es : List ℕ) (m : ℕ) (r : Choice) where
         let ps = productsBy es m r (r .count) in
         q ∙ ap (λ (x : List ℕ). sets x at (encodeEnd (r .count))) p
         ∙ sets-append (set (set room 0 variablesKind) 1 n) 2 (encodeProducts ps) (encodeEnd (r .count)) at (e ∙ ap (λ (z : ℕ). 2 + z) (sym (products-length (r .count) (omega arith))))
-        ∙ ap (λ (z : ℕ). sets room 0 (variablesKind ∷ n ∷ (encodeProducts ps ++ encodeEnd z))) (sym (products-count (r .count)))
+        ∙ ap (λ (z : ℕ). sets room 0 (variablesKind ∷ n ∷ (encodeProducts ps ++ encodeEnd z))) (sym (products-count es m r (r .count)))
         ∙ sets-front room (encodeForm (record { variables = n; products = ps })) (omega (arith, form-bytes-length n))

@@ -3,10 +3,11 @@
 use basis::Basis;
 use basis::ShortList;
 use choice::Choice;
+use choice::MAX_CHOSEN;
+use cubes::MAX_LISTED;
 use factors::FactorList;
 use form::FACTOR_LENGTH;
 use form::FIRST_PRODUCT;
-use masks::MAX_LISTED;
 use table::MAX_POINTS;
 use table::ROOM_FAULT;
 use table::SIZE_FAULT;
@@ -17,19 +18,17 @@ ghost use lib.ListN.{length};
 ghost use lib.Seq.{sets};
 ghost use Rattle.gf2.specs.Limits.{maxVariables};
 ghost use Rattle.basis.specs.Short.{listed, short};
-ghost use Rattle.basis.specs.Reduced.{vectorsOf};
+ghost use Rattle.basis.specs.Reduced.{vectorsOf, Spans};
 ghost use Rattle.table.specs.Decision.{front};
 ghost use Rattle.space.specs.Restriction.{restriction};
 ghost use Rattle.space.specs.Witness.{flagged};
 ghost use Rattle.product.specs.Product.{factor};
+ghost use Rattle.cubes.specs.Records.{maxListed};
 ghost use Rattle.form.specs.Encoding.{encodeFactors, encodeProducts, encodeForm};
-ghost use Rattle.choice.specs.Chosen.{Chose};
+ghost use Rattle.choice.specs.Chosen.{productsBy, Candidates, Chose};
 ghost use Rattle.factors.specs.Factors.{productIn, IsProduct};
-ghost use Rattle.writing.specs.Products.{Restricts, Candidates, productsBy, productLength, productsLength, formLength};
+ghost use Rattle.writing.specs.Products.{productLength, productsLength, formLength};
 ghost use Rattle.writing.specs.Writing.{writeRefused, writeAnswer, writeAfter};
-
-// The number of points of the largest restriction whose form is written.
-const MAX_RESTRICTED: usize = 1 << MAX_LISTED;
 
 // The length of the end record, its kind included.
 const END_LENGTH: usize = 3;
@@ -134,12 +133,13 @@ fn put_form(n: usize, equations: ShortList, m: usize, choice: Choice, room: &mut
 
 // The primes chosen for the restriction, by a basis, of the function that the flags give.
 pub fn choose_restriction(flags: &[bool; MAX_POINTS], basis: Basis, n: usize) -> Choice
-    requires { ⌜ Restricts n basis ⌝ }
+    requires { ⌜ Spans n basis ⌝ }
+    requires { ⌜ n - basis .len ≤ maxListed ⌝ }
     ensures { λ r. ⌜ Chose (n - basis .len) (restriction n (vectorsOf basis) (flagged (now (flags .entry)))) r ⌝ }
 {
     let leads = basis.leads();
     let count = projection::count_kept(flags, leads, n);
-    let mut points = [0u16; MAX_RESTRICTED];
+    let mut points = [0u16; MAX_CHOSEN];
     projection::write_kept(flags, leads, n, &mut points);
     choice::choose(n - basis.len, &points[0..count])
 }

@@ -12,11 +12,11 @@ use denote.Ref.{now}
 use Rattle.table.specs.Table.{outside}
 use Rattle.table.specs.Flags.{maxPoints}
 use Rattle.table.proofs.Table.{inside-at, outside-more}
-use Rattle.masks.specs.Entry.{EntryAt}
+use Rattle.bases.specs.Entry.{EntryAt}
 use Rattle.cover.specs.Choice.{primesOf, covered, firstHolding}
 use Rattle.choice.specs.declared.Choice.{Choice}
 use Rattle.choice.specs.Search.{foundOf}
-use Rattle.choice.specs.Chosen.{chosenBy}
+use Rattle.choice.specs.Chosen.{maxChosen, chosenBy}
 use Rattle.choice.proofs.Taking.{primes-by, search-at, TakenTo, taken-start, taken-covered, taken-nothing, taken-one, few-points, taken-end}
 use Rattle.choice.proofs.choose.Statement.{statement}
 use Rattle.choice.proofs.choose.Tie as tie
@@ -73,9 +73,6 @@ loop-again c =
     taken-covered (s .args .m) (now (s .args .on)) (l .loop .i) (l .loop .flags) (l .loop .choice) (l .loop .inv) h
     (flag-is (l .loop .inv) (s .pre .0) (s .pre .1 .0) h (c .before .flag-place .result) (c .before .flag-place .ensures) true (c .if1 .taken))
 
-cast-first-holding : tie.Need-cast-first-holding Inv-loop μ-loop
-cast-first-holding c = search needs
-
 first-holding-requires : tie.Need-first-holding-requires Inv-loop μ-loop
 first-holding-requires c κs =
     let l = c .before .before .before .before .before in
@@ -116,7 +113,7 @@ loop-again-2 c =
     (not-true (f .first-holding .result .any) (c .if2 .taken))
 
 -- There is room for one more.
-room : (c : tie.Else2 Inv-loop μ-loop) → c .before .before .before .before .before .before .before .before .loop .choice .count < 64
+room : (c : tie.Else2 Inv-loop μ-loop) → c .before .before .before .before .before .before .before .before .loop .choice .count < maxChosen
 room c =
     let l = c .before .before .before .before .before .before .before .before in
     let s = l .before .before .before .before in
@@ -170,7 +167,6 @@ choose-spec =
     array-read-if1
     loop-less
     loop-again
-    cast-first-holding
     first-holding-requires
     loop-less-2
     loop-again-2

@@ -7,7 +7,7 @@ use borrow.Author.Needs.{needs}
 use Rattle.cubes.specs.Lists.{keep}
 use Rattle.cubes.specs.Candidates.{candidatesFrom, candidates}
 use Rattle.masks.specs.Points.{primeBy}
-use Rattle.masks.specs.Entry.{candidateAt}
+use Rattle.bases.specs.Entry.{candidateAt}
 use Rattle.cover.specs.Choice.{firstHolding}
 use Rattle.choice.specs.Search.{Search}
 use Rattle.choice.proofs.First.{from-found, from-next, from-last}

@@ -8,9 +8,9 @@ use borrow.Author.Needs.{needs}
 use denote.Ref.{now}
 use Rattle.gf2.specs.Finite.{Mem}
 use Rattle.bases.specs.Entries.{entries}
-use Rattle.bases.specs.Bases.{stop, entriesOf}
+use Rattle.bases.specs.Bases.{entryCount, stop, entriesOf}
 use Rattle.masks.specs.Points.{primeBy}
-use Rattle.masks.proofs.Bounds.{bounds, entry-mem}
+use Rattle.bases.proofs.Bounds.{bounds, entry-mem}
 use Rattle.choice.proofs.Reductions.{six}
 use Rattle.choice.proofs.Best.{Best, best-start, best-step, best-entry, best-first}
 use Rattle.choice.proofs.first_of_degree.Statement.{statement}
@@ -39,7 +39,7 @@ loop-holds c =
 within : (c : tie.In-loop Inv-loop μ-loop) → c .before .loop .i < stop (c .before .before .before .before .args .d)
 within c = omega (arith, c .loop-test .taken, c .before .before .stop-of .ensures)
 
-last : (c : tie.In-loop Inv-loop μ-loop) → c .before .loop .i < 2825
+last : (c : tie.In-loop Inv-loop μ-loop) → c .before .loop .i < entryCount
 last c = let s = c .before .before .before .before in omega (arith, within c, bounds (s .args .d) (six (s .pre .1)) .1)
 
 own : (c : tie.In-loop Inv-loop μ-loop) → getD (now (c .before .before .before .before .args .table)) (c .before .loop .i) 0 ≡ getD entries (c .before .loop .i) 0

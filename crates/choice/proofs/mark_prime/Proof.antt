@@ -8,7 +8,7 @@ use lib.Pow.{pow-mono}
 use lib.ListN.{length, set}
 use borrow.Author.Needs.{needs}
 use Rattle.table.specs.Flags.{maxPoints}
-use Rattle.masks.specs.Entry.{candidateAt}
+use Rattle.bases.specs.Entry.{candidateAt}
 use Rattle.choice.proofs.Reductions.{entry-positive}
 use Rattle.choice.proofs.Taking.{MarkedTo, marked-start, marked-on, marked-off, marked-end}
 use Rattle.choice.proofs.mark_prime.Statement.{statement}
@@ -29,9 +29,6 @@ loop-holds c =
     let a = s .args in
     let long : length (a .t5) ≡ maxPoints = search needs in
     (omega arith, marked-start (candidateAt (a .d) (a .point) (a .entry)) (a .t5) long)
-
-cast-holds-point : tie.Need-cast-holds-point Inv-loop μ-loop
-cast-holds-point c = search needs
 
 holds-point-requires : tie.Need-holds-point-requires Inv-loop μ-loop
 holds-point-requires c κs = let s = c .before .before .before in let k = s .pre in entry-positive (s .args .d) (s .args .entry) (omega (arith, k .few, k .short)) (k .listed)
@@ -85,7 +82,6 @@ mark-prime-spec =
     μ-loop
     point-count-requires
     loop-holds
-    cast-holds-point
     holds-point-requires
     flag-place-requires
     array-write-flags

@@ -1,7 +1,7 @@
 -- `factors::product_of` meets its contract: the equations of the candidate's basis are the masks of its canonical product. Assumes nothing.
 use mathlib.Core.Path.{_≡_, sym, ap, _∙_, subst}
 use mathlib.Core.List.{List}
-use Prim.Native.Nat.{ℕ, _^_, _≤_, _<_}
+use Prim.Native.Nat.{ℕ, _≤_}
 use native.Mathlib.Omega.{arith}
 use lib.Pow.{pow-mono}
 use Rattle.gf2.specs.Limits.{maxVariables}
@@ -13,12 +13,11 @@ use Rattle.basis.proofs.Values.{short-listed, short-again, vectors-back, is-bas
 use Rattle.space.specs.Restriction.{equations}
 use Rattle.cubes.specs.Cubes.{IsCandidate}
 use Rattle.cubes.specs.Records.{maxListed}
-use Rattle.cubes.proofs.Cubes.{point-below, vectors-below, degree-most}
+use Rattle.cubes.proofs.Cubes.{vectors-below, degree-most}
 use Rattle.bases.specs.Bases.{vectorsOf}
-use Rattle.masks.specs.Entry.{candidateAt}
-use Rattle.masks.proofs.PrimeTest.{vectors-length}
-use Rattle.cover.specs.CanonicalProduct.{canonicalProduct}
-use Rattle.cover.specs.Substitution.{substituteProduct}
+use Rattle.bases.specs.Entry.{candidateAt}
+use Rattle.bases.proofs.Entry.{vectors-length}
+use Rattle.cover.specs.WrittenForm.{productBy}
 use Rattle.factors.specs.Factors.{factorsOf, factorsAt}
 use Rattle.factors.proofs.Products.{factors-product}
 use Rattle.factors.proofs.product_of.Statement.{statement}
@@ -26,7 +25,7 @@ use Rattle.factors.proofs.product_of.Tie as tie
 
 -- The masks in the y's are known by their numbers.
 known : (es : List ℕ) (m d point entry : ℕ) (b : Basis) → b ≡ basisOf (vectorsOf d entry) → (ys : ShortList) → ys ≡ short (equations m (vectorsIn b))
-    → (ys ≡ short (listed ys)) × (factorsAt es (listed ys) point ≡ factorsOf (substituteProduct es (canonicalProduct m (candidateAt d point entry))))
+    → (ys ≡ short (listed ys)) × (factorsAt es (listed ys) point ≡ factorsOf (productBy es m (candidateAt d point entry)))
 known es m d point entry b e ys q = (
   short-again ys (equations m (vectorsIn b)) q,
   ap (λ (l : List ℕ). factorsAt es l point) (short-listed ys (equations m (vectorsIn b)) q ∙ ap (equations m) (ap vectorsIn e ∙ vectors-back (vectorsOf d entry)))
@@ -36,9 +35,6 @@ known es m d point entry b e ys q = (
 module _ (m d point entry : ℕ) (few : m ≤ maxListed) (k : IsCandidate m (candidateAt d point entry)) where
   few-vectors : d ≤ maxVariables
   few-vectors = omega (arith, degree-most m (candidateAt d point entry) k, vectors-length d entry)
-
-  low-point : point < 2 ^ maxListed
-  low-point = omega (arith, point-below m (candidateAt d point entry) k, pow-mono few)
 
   a-basis : (b : Basis) → b ≡ basisOf (vectorsOf d entry) → IsBasis b
   a-basis b e = subst IsBasis (sym e) (is-basis (vectorsOf d entry) (k .reduced)
@@ -51,9 +47,6 @@ equations-requires : tie.Need-equations-requires
 equations-requires c κs =
     let s = c .before in
     (a-basis (s .args .m) (s .args .d) (s .args .point) (s .args .entry) (s .pre .1 .0) (s .pre .1 .1) (c .basis-of .result) (c .basis-of .ensures), omega (arith, s .pre .1 .0))
-
-cast-factors-at : tie.Need-cast-factors-at
-cast-factors-at c = let s = c .before .before in omega (arith, low-point (s .args .m) (s .args .d) (s .args .point) (s .args .entry) (s .pre .1 .0) (s .pre .1 .1))
 
 factors-at-requires : tie.Need-factors-at-requires
 factors-at-requires c κs =
@@ -72,4 +65,4 @@ returns c =
 pub product-of-spec : {M : Type 1} → statement M
 product-of-spec =
     tie.close
-    (tie.spec basis-of-requires equations-requires cast-factors-at factors-at-requires returns)
+    (tie.spec basis-of-requires equations-requires factors-at-requires returns)

@@ -1,15 +1,16 @@
 -- `form::count_points` meets its contract: the points passed are counted. Assumes nothing.
 use Prim.Native.Nat.{ℕ, _≤_, _-_}
 use mathlib.Core.Path.{_≡_, refl, sym, ap, _∙_}
+use mathlib.Core.Bool.{true, false}
 use mathlib.Core.Logic.{⊎-elim}
 use native.Mathlib.Omega.{arith}
 use borrow.Author.Needs.{needs}
 use lib.ListN.{length}
 use Rattle.gf2.specs.Finite.{select}
 use Rattle.gf2.proofs.Finite.{select-length}
+use Rattle.table.proofs.Selecting.{count-step}
 use Rattle.form.specs.Form.{formAt}
 use Rattle.form.specs.Decoding.{decodeForm}
-use Rattle.form.proofs.Answering.{count-on, count-off}
 use Rattle.form.proofs.count_points.Statement.{statement}
 use Rattle.form.proofs.count_points.Tie as tie
 
@@ -46,8 +47,8 @@ loop-again c =
     let t = formAt (decodeForm (a .bytes .now)) in (
       omega arith,
       ⊎-elim
-          (λ w. w .1 ∙ count-on t (l .point) (sym (d .form-at .ensures) ∙ w .0 .taken) (l .inv .1))
-          (λ w. w .1 ∙ count-off t (l .point) (sym (d .form-at .ensures) ∙ w .0 .left) (l .inv .1))
+          (λ w. count-step t (l .point) (l .count) (c .if1 .count) (l .inv .1) true (sym (d .form-at .ensures) ∙ w .0 .taken) (w .1))
+          (λ w. count-step t (l .point) (l .count) (c .if1 .count) (l .inv .1) false (sym (d .form-at .ensures) ∙ w .0 .left) (w .1))
           (c .if1 .came),
     )
 

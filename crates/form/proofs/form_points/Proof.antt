@@ -1,6 +1,6 @@
 -- `form::form_points` meets its contract: the form's own refusal, then the room's, decide; the points below 2 ^ n are those of the form.
 -- Assumes nothing.
-use mathlib.Core.Path.{_≡_, sym, ap, _∙_}
+use mathlib.Core.Path.{_≡_, refl, sym, ap, _∙_}
 use mathlib.Core.List.{List}
 use Prim.Native.Nat.{ℕ}
 use native.Mathlib.Omega.{arith}
@@ -11,7 +11,7 @@ use Rattle.table.specs.Decision.{front}
 use Rattle.form.specs.Form.{formAt}
 use Rattle.form.specs.Decoding.{formVariables, decodeForm}
 use Rattle.form.specs.Reading.{IsForm, formFault, pointsOf}
-use Rattle.form.proofs.Answering.{no-refusal, form-begins, points-below, points-refused, points-short, points-accepted}
+use Rattle.form.proofs.Answering.{no-refusal, form-begins, points-below, points-ways}
 use Rattle.form.proofs.form_points.Statement.{statement}
 use Rattle.form.proofs.form_points.Tie as tie
 
@@ -21,7 +21,7 @@ form-fault-requires c κs = search needs
 returns : tie.Need-returns
 returns c =
     let a = c .before .before .before .before .args in
-    points-refused (a .bytes .now) (a .room .now) (c .before .form-fault .result) (c .before .form-fault .ensures) (c .if1 .taken)
+    points-ways (a .bytes .now) (a .room .now) .faulty (c .before .form-fault .result) (c .before .form-fault .ensures) (c .if1 .taken) _ refl
 
 -- Past the first test the bytes are a form.
 sound : (c : tie.Else1) → formFault (c .before .before .before .before .args .bytes .now) ≡ 0
@@ -55,7 +55,7 @@ returns-2 c =
     let n = c .before in
     let e = n .before .before .before in
     let a = e .before .before .before .before .args in
-    points-short (a .bytes .now) (a .room .now) (sound e) (omega (arith, counted n))
+    points-ways (a .bytes .now) (a .room .now) .short (sound e) (omega (arith, counted n)) _ refl
 
 write-points-requires : tie.Need-write-points-requires
 write-points-requires c κs =
@@ -71,10 +71,9 @@ returns-3 c =
     let n = w .before .before .before in
     let e = n .before .before .before in
     let a = e .before .before .before .before .args in
-    let answer = points-accepted (a .bytes .now) (a .room .now) (sound e) (omega (arith, counted n, w .before .before .if2 .left)) in (
-      ap (λ (k : ℕ). record { refusal = 0; variables = formVariables (a .bytes .now); count = k }) (counted n) ∙ answer .0,
-      w .write-points .ensures ∙ ap (λ (l : List ℕ). front l (a .room .now)) (points (n .before)) ∙ answer .1,
-    )
+    points-ways (a .bytes .now) (a .room .now) .whole (sound e) (omega (arith, counted n, w .before .before .if2 .left)) _ _
+    (ap (λ (k : ℕ). record { refusal = 0; variables = formVariables (a .bytes .now); count = k }) (counted n))
+    (w .write-points .ensures ∙ ap (λ (l : List ℕ). front l (a .room .now)) (points (n .before)))
 
 pub form-points-spec : {M : Type 1} → statement M
 form-points-spec =

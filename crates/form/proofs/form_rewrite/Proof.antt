@@ -1,6 +1,6 @@
 -- `form::form_rewrite` meets its contract: the form's own refusal, then the room's, decide; what was read is written as the bytes that were
 -- read. Assumes nothing.
-use mathlib.Core.Path.{_≡_, sym, ap, _∙_}
+use mathlib.Core.Path.{_≡_, refl, sym, ap, _∙_}
 use mathlib.Core.List.{List}
 use Prim.Native.Nat.{ℕ}
 use native.Mathlib.Omega.{arith}
@@ -9,7 +9,7 @@ use lib.ListN.{length}
 use Rattle.table.specs.Decision.{front}
 use Rattle.form.specs.Reading.{formFault, rewritten}
 use Rattle.form.proofs.Encodings.{rewritten-same}
-use Rattle.form.proofs.Answering.{no-refusal, slice-bytes, rewrite-refused, rewrite-short, rewrite-accepted}
+use Rattle.form.proofs.Answering.{no-refusal, slice-bytes, rewrite-ways}
 use Rattle.form.proofs.form_rewrite.Statement.{statement}
 use Rattle.form.proofs.form_rewrite.Tie as tie
 
@@ -19,7 +19,7 @@ form-fault-requires c κs = search needs
 returns : tie.Need-returns
 returns c =
     let a = c .before .before .before .before .args in
-    rewrite-refused (a .bytes .now) (a .room .now) (c .before .form-fault .result) (c .before .form-fault .ensures) (c .if1 .taken)
+    rewrite-ways (a .bytes .now) (a .room .now) .faulty (c .before .form-fault .result) (c .before .form-fault .ensures) (c .if1 .taken) _ refl
 
 -- Past the first test the bytes are a form, and so what is written is what was read.
 sound : (c : tie.Else1) → formFault (c .before .before .before .before .args .bytes .now) ≡ 0
@@ -34,7 +34,7 @@ returns-2 : tie.Need-returns-2
 returns-2 c =
     let e = c .before in
     let a = e .before .before .before .before .args in
-    rewrite-short (a .bytes .now) (a .room .now) (sound e) (omega (arith, ap length (same e)))
+    rewrite-ways (a .bytes .now) (a .room .now) .short (sound e) (omega (arith, ap length (same e))) _ refl
 
 copy-bytes-requires : tie.Need-copy-bytes-requires
 copy-bytes-requires c κs = search needs
@@ -47,10 +47,9 @@ returns-3 c =
     let w = c .before .before in
     let e = w .before .before .before in
     let a = e .before .before .before .before .args in
-    let answer = rewrite-accepted (a .bytes .now) (a .room .now) (sound e) (omega (arith, ap length (same e), w .before .before .if2 .left)) in (
-      ap (λ (l : List ℕ). record { refusal = 0; length = length l }) (sym (same e)) ∙ answer .0,
-      w .copy-bytes .ensures ∙ ap (λ (l : List ℕ). front l (a .room .now)) (sym (same e)) ∙ answer .1,
-    )
+    rewrite-ways (a .bytes .now) (a .room .now) .whole (sound e) (omega (arith, ap length (same e), w .before .before .if2 .left)) _ _
+    (ap (λ (l : List ℕ). record { refusal = 0; length = length l }) (sym (same e)))
+    (w .copy-bytes .ensures ∙ ap (λ (l : List ℕ). front l (a .room .now)) (sym (same e)))
 
 pub form-rewrite-spec : {M : Type 1} → statement M
 form-rewrite-spec =

@@ -8,7 +8,8 @@ use borrow.Author.Needs.{needs}
 use lib.ListN.{length}
 use Rattle.table.specs.Decision.{front}
 use Rattle.table.proofs.Table.{accepted}
-use Rattle.glospruma.proofs.Completions.{restriction-kept, analyse-numbers, analyse-ways}
+use Rattle.projection.proofs.Restrictions.{completed-kept}
+use Rattle.glospruma.proofs.Completions.{analyse-numbers, analyse-ways}
 use Rattle.glospruma.proofs.glospruma_analyse.Statement.{statement}
 use Rattle.glospruma.proofs.glospruma_analyse.Tie as tie
 
@@ -45,7 +46,7 @@ returns-2 c =
     let a = c .before .before .before .before .before .before .before .before .before .before .before .before .before .args in
     let d = c .before .before .before .before .before .before .before .complete in
     let l = c .before .before .before .before .leads in
-    let count = c .before .before .count-kept .ensures ∙ ap length (restriction-kept (a .n) (a .on .now) (a .free .now) (d .result) (d .ensures) (l .result) (l .ensures)) in
+    let count = c .before .before .count-kept .ensures ∙ ap length (completed-kept (d .ensures) (l .result) (l .ensures)) in
     analyse-ways (a .n) (a .on .now) (a .free .now) (a .room .now) .short (sym (c .before .before .before .before .before .before .before .before .before .table-fault .ensures) ∙ c .before .before .before .before .before .before .before .before .if1 .left) (omega arith) (c .no-analysis2 .result) (c .no-analysis2 .ensures)
 
 write-kept-requires : tie.Need-write-kept-requires
@@ -72,7 +73,7 @@ returns-3 c =
     let d = c .before .before .before .before .before .before .before .before .before .before .before .before .before .complete in
     let l = c .before .before .before .before .before .before .before .before .before .before .leads in
     let count = c .before .before .before .before .before .before .before .before .count-kept in
-    let kept = restriction-kept (a .n) (a .on .now) (a .free .now) (d .result) (d .ensures) (l .result) (l .ensures) in
+    let kept = completed-kept (d .ensures) (l .result) (l .ensures) in
     let long = count .ensures ∙ ap length kept in
     analyse-ways (a .n) (a .on .now) (a .free .now) (a .room .now) .whole (sym (c .before .before .before .before .before .before .before .before .before .before .before .before .before .before .before .table-fault .ensures) ∙ c .before .before .before .before .before .before .before .before .before .before .before .before .before .before .if1 .left) (omega arith) _ _
     (analyse-numbers (a .n) (a .on .now) (a .free .now) (d .result) (d .ensures) (count .result) (l .result) (c .before .canonical .result) (c .equations .result)

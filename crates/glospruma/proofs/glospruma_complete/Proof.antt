@@ -8,7 +8,7 @@ use borrow.Author.Needs.{needs}
 use lib.ListN.{length}
 use Rattle.table.specs.Decision.{front}
 use Rattle.table.proofs.Table.{accepted}
-use Rattle.glospruma.proofs.Completions.{points-kept, complete-numbers, complete-ways}
+use Rattle.glospruma.proofs.Completions.{all-kept, complete-numbers, complete-ways}
 use Rattle.glospruma.proofs.glospruma_complete.Statement.{statement}
 use Rattle.glospruma.proofs.glospruma_complete.Tie as tie
 
@@ -41,7 +41,7 @@ returns-2 : tie.Need-returns-2
 returns-2 c =
     let a = c .before .before .before .before .before .before .before .before .before .before .before .before .args in
     let d = c .before .before .before .before .before .before .complete in
-    let count = c .before .before .count-kept .ensures ∙ ap length (points-kept (a .n) (a .on .now) (a .free .now) (d .result) (d .ensures)) in
+    let count = c .before .before .count-kept .ensures ∙ ap length (all-kept (a .n) (a .on .now) (a .free .now) (d .result) (d .ensures)) in
     complete-ways (a .n) (a .on .now) (a .free .now) (a .room .now) .short (sym (c .before .before .before .before .before .before .before .before .table-fault .ensures) ∙ c .before .before .before .before .before .before .before .if1 .left) (omega arith) (c .no-completion2 .result) (c .no-completion2 .ensures)
 
 write-kept-requires : tie.Need-write-kept-requires
@@ -56,7 +56,7 @@ returns-3 : tie.Need-returns-3
 returns-3 c =
     let a = c .before .before .before .before .before .before .before .before .before .before .before .before .before .before .before .before .args in
     let d = c .before .before .before .before .before .before .before .before .before .before .complete in
-    let kept = points-kept (a .n) (a .on .now) (a .free .now) (d .result) (d .ensures) in
+    let kept = all-kept (a .n) (a .on .now) (a .free .now) (d .result) (d .ensures) in
     let count = c .before .before .before .before .before .before .count-kept in
     let long = count .ensures ∙ ap length kept in
     complete-ways (a .n) (a .on .now) (a .free .now) (a .room .now) .whole (sym (c .before .before .before .before .before .before .before .before .before .before .before .before .table-fault .ensures) ∙ c .before .before .before .before .before .before .before .before .before .before .before .if1 .left) (omega arith) _ _

@@ -1,18 +1,12 @@
 -- `masks::is_prime` meets its contract: one law for each way that the test can go. Assumes nothing.
-use mathlib.Core.Path.{_≡_, sym, _∙_}
-use Prim.Native.Nat.{ℕ, _*_, _%_, _^_, _≤_}
-use native.Mathlib.Nat.{one-mul}
+use mathlib.Core.Path.{sym, _∙_}
 use native.Mathlib.Omega.{arith}
-use lib.Dec.{lit<}
-use lib.Pow.{shl-exact, pow-mono}
+use lib.Pow.{pow-mono}
 use borrow.Author.Needs.{needs}
+use Rattle.gf2.proofs.Xor.{shifted-one}
 use Rattle.masks.proofs.PrimeTest.{entry-fitting, prime-out, prime-more, prime-held}
 use Rattle.masks.proofs.is_prime.Statement.{statement}
 use Rattle.masks.proofs.is_prime.Tie as tie
-
--- The number of points of a candidate.
-size : (d : ℕ) → d ≤ 6 → 1 * 2 ^ d % 4294967296 ≡ 2 ^ d
-size d h = shl-exact 1 d 32 (lit< tt) (omega arith) ∙ one-mul (2 ^ d)
 
 every-point-requires : tie.Need-every-point-requires
 every-point-requires c κs = entry-fitting (c .pre .1 .1)
@@ -36,10 +30,10 @@ returns-2 c =
     let s = c .before .before .before in
     let k = s .pre .1 .1 in
     let i = c .before .before .every-point in
-    prime-more k (s .args .on) (s .args .free) (i .result) (s .pre .0) (s .pre .1 .0) (omega arith) (i .ensures) (λ e. c .if2 .taken (e ∙ sym (size (s .args .d) (omega (arith, k .few, k .short)))))
+    prime-more k (s .args .on) (s .args .free) (i .result) (s .pre .0) (s .pre .1 .0) (omega arith) (i .ensures) (λ e. c .if2 .taken (e ∙ sym (shifted-one (s .args .d) 32 (omega (arith, k .few, k .short)))))
 
-some-point-requires : tie.Need-some-point-requires
-some-point-requires c κs = entry-fitting (c .before .before .before .pre .1 .1)
+every-point-requires-2 : tie.Need-every-point-requires-2
+every-point-requires-2 c κs = entry-fitting (c .before .before .before .pre .1 .1)
 
 shr-result : tie.Need-shr-result
 shr-result c = let k = c .before .before .before .before .pre .1 .1 in omega (arith, k .point, pow-mono (k .few))
@@ -50,7 +44,7 @@ returns-3 c =
     let k = s .pre .1 .1 in
     let i = c .before .before .before .every-point in
     prime-held k (s .args .on) (s .args .free) (i .result) (s .pre .0) (s .pre .1 .0) (omega arith) (i .ensures) (c .before .before .if1 .left)
-    (c .before .if2 .left ∙ size (s .args .d) (omega (arith, k .few, k .short))) (c .some-point .result) (c .some-point .ensures)
+    (c .before .if2 .left ∙ shifted-one (s .args .d) 32 (omega (arith, k .few, k .short))) (c .every-point2 .result) (c .every-point2 .ensures)
 
 pub is-prime-spec : {M : Type 1} → statement M
 is-prime-spec =
@@ -62,6 +56,6 @@ is-prime-spec =
     cast-if2
     shl-if2
     returns-2
-    some-point-requires
+    every-point-requires-2
     shr-result
     returns-3)

@@ -12,7 +12,7 @@ use Rattle.gf2.proofs.Finite.{select-length}
 use Rattle.space.specs.Restriction.{project}
 use Rattle.space.specs.Witness.{flagged}
 use Rattle.projection.specs.Masks.{placesClear, isKept, kept}
-use Rattle.projection.proofs.Steps.{count-step}
+use Rattle.table.proofs.Selecting.{count-step}
 use Rattle.projection.proofs.count_kept.Statement.{statement}
 use Rattle.projection.proofs.count_kept.Tie as tie
 

@@ -14,7 +14,7 @@ use Rattle.basis.specs.Reduced.{vectorsOf, IsBasis}
 use Rattle.basis.proofs.Values.{basis-len, vector-room, vector-mem, vector-pos}
 use Rattle.space.specs.Restriction.{equation}
 use Rattle.space.proofs.Steps.{equation-nil, equation-take}
-use Rattle.projection.proofs.Steps.{shifted-one}
+use Rattle.gf2.proofs.Xor.{shifted-one}
 use Rattle.projection.proofs.equation.Statement.{statement}
 use Rattle.projection.proofs.equation.Tie as tie
 
@@ -33,7 +33,7 @@ shl-mask c = search needs
 loop-holds : tie.Need-loop-holds Inv-loop μ-loop
 loop-holds c =
     let s = c .before in
-    (omega arith, shifted-one (s .args .place) (s .pre .1) ∙ sym (equation-nil (s .args .place)))
+    (omega arith, shifted-one (s .args .place) 16 (omega arith) ∙ sym (equation-nil (s .args .place)))
 
 mul-b : tie.Need-mul-b Inv-loop μ-loop
 mul-b c = let s = c .before .before .before in omega (arith, vector-room (s .args .basis) (s .pre .0) (c .before .loop .i) (omega arith))

@@ -7,7 +7,7 @@ use borrow.Author.Needs.{needs}
 use Rattle.gf2.specs.Limits.{maxVariables}
 use Rattle.gf2.specs.Bits.{bit, lead}
 use Rattle.gf2.proofs.Leads.{lead-fits}
-use Rattle.projection.proofs.Steps.{shifted-one}
+use Rattle.gf2.proofs.Xor.{shifted-one}
 use Rattle.projection.proofs.lead_term.Statement.{statement}
 use Rattle.projection.proofs.lead_term.Tie as tie
 
@@ -31,7 +31,7 @@ returns : tie.Need-returns
 returns c =
     let s = c .before .before .before in
     let here : bit (s .args .place) (s .args .b) ≡ true = sym (c .before .before .bit .ensures) ∙ c .before .if1 .taken in
-    rw (here, c .lead .ensures) (shifted-one (lead (s .args .b)) (low (s .args .b) (s .pre .0)))
+    rw (here, c .lead .ensures) (shifted-one (lead (s .args .b)) 16 (omega (arith, low (s .args .b) (s .pre .0))))
 
 returns-2 : tie.Need-returns-2
 returns-2 c =

@@ -1,14 +1,13 @@
 -- `projection::project_clear` meets its contract: a point of n variables has no bits but its own, and XOR with all places turns the bits of the mask over. Assumes nothing.
 use mathlib.Core.Path.{_≡_, sym, ap, _∙_}
-use mathlib.Core.Bool.{true, not}
+use mathlib.Core.Bool.{not}
 use mathlib.Core.List.{List}
 use Prim.Native.Nat.{ℕ, _-_, _^_}
 use native.Mathlib.Omega.{arith}
 use borrow.Author.Needs.{needs}
 use lib.Pow.{pow-pos}
 use Rattle.gf2.specs.Bits.{_⊕_, bit}
-use Rattle.gf2.proofs.Logic.{⊻-comm}
-use Rattle.gf2.proofs.Xor.{bit-xor, bit-ones}
+use Rattle.gf2.proofs.Xor.{bit-turned}
 use Rattle.gf2.proofs.Variables.{places-ext}
 use Rattle.space.specs.Restriction.{project}
 use Rattle.projection.specs.Masks.{placesSet, placesClear}
@@ -32,8 +31,7 @@ project-requires c κs = search needs
 
 -- XOR with all places turns the bits of the mask over.
 turned : (mask n size : ℕ) → size ≡ 2 ^ n → placesSet n (mask ⊕ (size - 1)) ≡ placesClear n mask
-turned mask n size e = rw e (places-ext (λ k. bit k (mask ⊕ (2 ^ n - 1))) (λ k. not (bit k mask)) n
-    (λ k h. bit-xor k mask (2 ^ n - 1) ∙ rw (bit-ones n k h) (⊻-comm (bit k mask) true)))
+turned mask n size e = rw e (places-ext (λ k. bit k (mask ⊕ (2 ^ n - 1))) (λ k. not (bit k mask)) n (λ k h. bit-turned n k mask h))
 
 returns-2 : tie.Need-returns-2
 returns-2 c =

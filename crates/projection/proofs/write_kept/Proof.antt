@@ -10,7 +10,7 @@ use Rattle.table.specs.Decision.{front}
 use Rattle.space.specs.Restriction.{project}
 use Rattle.space.specs.Witness.{flagged}
 use Rattle.projection.specs.Masks.{placesClear, isKept, kept}
-use Rattle.projection.proofs.Steps.{count-step, write-step, written-length, written-room}
+use Rattle.table.proofs.Selecting.{count-step, write-step, written-length, written-room}
 use Rattle.projection.proofs.write_kept.Statement.{statement}
 use Rattle.projection.proofs.write_kept.Tie as tie
 

@@ -4,13 +4,13 @@ use native.Mathlib.Omega.{arith}
 use borrow.Author.Needs.{needs}
 use lib.ListN.{getD}
 use Rattle.basis.specs.Short.{listed}
-use Rattle.masks.specs.Entry.{candidateAt}
+use Rattle.bases.specs.Entry.{candidateAt}
 use Rattle.choice.specs.Chosen.{chosenAt}
 use Rattle.text.specs.Writing.{Wrote}
 use Rattle.text.proofs.Pieces.{pieces}
 use Rattle.text.proofs.Writing.{room-piece, wrote-none, wrote-length, wrote-piece, wrote-pieces}
 use Rattle.lines.specs.Lines.{productLine}
-use Rattle.table_report.specs.Parts.{productBy}
+use Rattle.cover.specs.WrittenForm.{productBy}
 use Rattle.table_report.proofs.Parts.{choice-pieces}
 use Rattle.table_report.proofs.choice_text.Statement.{statement}
 use Rattle.table_report.proofs.choice_text.Tie as tie

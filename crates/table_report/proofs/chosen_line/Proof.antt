@@ -2,11 +2,11 @@
 use mathlib.Core.Path.{sym, ap}
 use borrow.Author.Needs.{needs}
 use Rattle.basis.specs.Short.{listed}
-use Rattle.masks.specs.Entry.{candidateAt}
-use Rattle.masks.proofs.PrimeTest.{entry-candidate}
+use Rattle.bases.specs.Entry.{candidateAt}
+use Rattle.bases.proofs.Entry.{entry-candidate}
 use Rattle.text.proofs.Writing.{room-same, wrote-same}
 use Rattle.lines.specs.Lines.{productLine}
-use Rattle.table_report.specs.Parts.{productBy}
+use Rattle.cover.specs.WrittenForm.{productBy}
 use Rattle.table_report.proofs.Parts.{constants-fit, masks-fit, product-same, product-zip}
 use Rattle.table_report.proofs.chosen_line.Statement.{statement}
 use Rattle.table_report.proofs.chosen_line.Tie as tie

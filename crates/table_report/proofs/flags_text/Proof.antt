@@ -1,16 +1,16 @@
 -- `table_report::flags_text` meets its contract: the points that the lead mask keeps are those of the restriction. Assumes nothing.
 use mathlib.Core.Path.{sym, ap, _∙_, subst}
-use Prim.Native.Nat.{ℕ, _≤_}
-use native.Mathlib.Omega.{arith}
 use borrow.Author.Needs.{needs}
-use lib.ListN.{length, replicate, length-replicate}
+use lib.ListN.{replicate}
 use Rattle.basis.specs.Reduced.{vectorsOf}
 use Rattle.table.specs.Flags.{maxPoints}
 use Rattle.space.specs.Witness.{flagged}
+use Rattle.table.proofs.Fill.{front-fits, front-part}
 use Rattle.projection.specs.Masks.{kept}
+use Rattle.projection.proofs.Restrictions.{points-kept}
 use Rattle.text.proofs.Writing.{room-same, wrote-same}
 use Rattle.table_report.specs.Parts.{functionText, Restricts}
-use Rattle.table_report.proofs.Parts.{restricts, flags-kept, kept-few, front-fits, front-part}
+use Rattle.table_report.proofs.Parts.{restricts, kept-few}
 use Rattle.table_report.proofs.flags_text.Statement.{statement}
 use Rattle.table_report.proofs.flags_text.Tie as tie
 
@@ -39,20 +39,14 @@ part-function-text-end c =
     let s = c .before .before .before .before .before .before .before .before in
     let a = s .args in
     let d = c .before .before .before .before .before .before .leads in
-    let few = kept-few (s .pre .0) (flagged (a .flags .now)) (d .result) in
-    let long = length-replicate {A = ℕ} maxPoints 0 in
-    let fits : length (kept (a .n) (d .result) (flagged (a .flags .now))) ≤ length {A = ℕ} (replicate maxPoints 0) = omega arith in
-    front-fits (kept (a .n) (d .result) (flagged (a .flags .now))) (replicate maxPoints 0) _ _ fits (c .before .before .before .write-kept .ensures) (c .before .before .before .before .before .count-kept .ensures)
+    front-fits (kept (a .n) (d .result) (flagged (a .flags .now))) (replicate maxPoints 0) _ _ (c .before .before .before .write-kept .ensures) (c .before .before .before .before .before .count-kept .ensures)
 
 function-text-requires : tie.Need-function-text-requires
 function-text-requires c κs =
     let s = c .before .before .before .before .before .before .before .before .before in
     let a = s .args in
     let d = c .before .before .before .before .before .before .before .leads in
-    let few = kept-few (s .pre .0) (flagged (a .flags .now)) (d .result) in
-    let long = length-replicate {A = ℕ} maxPoints 0 in
-    let fits : length (kept (a .n) (d .result) (flagged (a .flags .now))) ≤ length {A = ℕ} (replicate maxPoints 0) = omega arith in
-    let q = front-part (kept (a .n) (d .result) (flagged (a .flags .now))) (replicate maxPoints 0) _ _ fits (c .before .before .before .before .write-kept .ensures) (c .before .before .before .before .before .before .count-kept .ensures) ∙ flags-kept (s .pre .0) (flagged (a .flags .now)) (d .result) (d .ensures) in
+    let q = front-part (kept (a .n) (d .result) (flagged (a .flags .now))) (replicate maxPoints 0) _ _ (c .before .before .before .before .write-kept .ensures) (c .before .before .before .before .before .before .count-kept .ensures) ∙ points-kept (s .pre .0) (flagged (a .flags .now)) (d .result) (d .ensures) in
     (subst (Restricts (a .n) (a .basis)) (sym q) (restricts (s .pre .0) (flagged (a .flags .now))), room-same (ap (functionText (a .n) (vectorsOf (a .basis))) (sym q)) (s .pre .1))
 
 same-length : tie.Need-same-length
@@ -63,10 +57,7 @@ returns c =
     let s = c .before .before .before .before .before .before .before .before .before .before .before .before in
     let a = s .args in
     let d = c .before .before .before .before .before .before .before .before .before .before .leads in
-    let few = kept-few (s .pre .0) (flagged (a .flags .now)) (d .result) in
-    let long = length-replicate {A = ℕ} maxPoints 0 in
-    let fits : length (kept (a .n) (d .result) (flagged (a .flags .now))) ≤ length {A = ℕ} (replicate maxPoints 0) = omega arith in
-    let q = front-part (kept (a .n) (d .result) (flagged (a .flags .now))) (replicate maxPoints 0) _ _ fits (c .before .before .before .before .before .before .before .write-kept .ensures) (c .before .before .before .before .before .before .before .before .before .count-kept .ensures) ∙ flags-kept (s .pre .0) (flagged (a .flags .now)) (d .result) (d .ensures) in
+    let q = front-part (kept (a .n) (d .result) (flagged (a .flags .now))) (replicate maxPoints 0) _ _ (c .before .before .before .before .before .before .before .write-kept .ensures) (c .before .before .before .before .before .before .before .before .before .count-kept .ensures) ∙ points-kept (s .pre .0) (flagged (a .flags .now)) (d .result) (d .ensures) in
     wrote-same (ap (functionText (a .n) (vectorsOf (a .basis))) q) (c .before .before .function-text .ensures)
 
 pub flags-text-spec : {M : Type 1} → statement M

@@ -5,8 +5,9 @@ use borrow.Author.Needs.{needs}
 use Rattle.basis.specs.Reduced.{vectorsOf}
 use Rattle.basis.proofs.Values.{short-again}
 use Rattle.space.specs.Restriction.{equations}
+use Rattle.projection.proofs.Restrictions.{spans-few}
 use Rattle.text.proofs.Writing.{room-same, wrote-same}
-use Rattle.table_report.proofs.Parts.{spans-few, basis-refused, basis-chosen, chose-writable}
+use Rattle.table_report.proofs.Parts.{basis-refused, basis-chosen}
 use Rattle.table_report.proofs.form_lines.Statement.{statement}
 use Rattle.table_report.proofs.form_lines.Tie as tie
 
@@ -46,7 +47,7 @@ choice-text-requires c κs =
     let v = c .before .equations in
     let es = equations (a .n) (vectorsOf (a .basis)) in
     let same = basis-chosen (s .pre .0 .spans) (a .points .now) (omega arith) (k .result) (k .ensures) (v .result) (v .ensures) in
-    (s .pre .0 .spans .few, (short-again (v .result) es (v .ensures), (chose-writable (k .ensures), room-same (sym same) (s .pre .1))))
+    (s .pre .0 .spans .few, (short-again (v .result) es (v .ensures), (k .ensures .candidates, room-same (sym same) (s .pre .1))))
 
 same-length-2 : tie.Need-same-length-2
 same-length-2 c = search needs

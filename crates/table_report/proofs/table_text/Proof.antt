@@ -6,11 +6,12 @@ use lib.ListN.{length}
 use Rattle.space.specs.Closure.{linearSpace}
 use Rattle.space.specs.Completion.{completed}
 use Rattle.space.specs.Restriction.{restriction}
+use Rattle.projection.proofs.Restrictions.{completed-spans}
 use Rattle.text.proofs.Writing.{room-same, room-first, room-then, wrote-same, wrote-both}
 use Rattle.lines.specs.Words.{variablesWord}
 use Rattle.lines.specs.Lines.{numberLine, countsLine}
 use Rattle.table_report.specs.Parts.{functionText}
-use Rattle.table_report.proofs.Parts.{table-parts, completed-spans, completed-text}
+use Rattle.table_report.proofs.Parts.{table-parts, completed-text}
 use Rattle.table_report.proofs.table_text.Statement.{statement}
 use Rattle.table_report.proofs.table_text.Tie as tie
 
@@ -42,7 +43,7 @@ flags-text-requires c κs =
     let r1 = room-then (countsLine (length (a .on .now)) (length (a .free .now)) ++ functionText (a .n) (linearSpace (a .n) (completed (a .n) (a .on .now) (a .free .now))) (restriction (a .n) (linearSpace (a .n) (completed (a .n) (a .on .now) (a .free .now))) (completed (a .n) (a .on .now) (a .free .now)))) r0 (c .before .before .before .before .before .before .before .before .before .before .number-line .ensures) in
     let r2 = room-then (functionText (a .n) (linearSpace (a .n) (completed (a .n) (a .on .now) (a .free .now))) (restriction (a .n) (linearSpace (a .n) (completed (a .n) (a .on .now) (a .free .now))) (completed (a .n) (a .on .now) (a .free .now)))) r1 (c .before .before .before .before .before .before .counts-line .ensures) in
     let k = c .before .before .before .complete .ensures in
-    (completed-spans (s .pre .0) k, room-same (completed-text (s .pre .0) k) r2)
+    (completed-spans k (s .pre .0 .few), room-same (completed-text k) r2)
 
 same-length : tie.Need-same-length
 same-length c = search needs
@@ -53,7 +54,7 @@ returns c =
     let a = s .args in
     wrote-same (sym (table-parts (a .n) (a .on .now) (a .free .now)))
     (wrote-both (c .before .before .before .before .before .before .before .before .before .before .before .before .before .number-line .ensures)
-    (wrote-both (c .before .before .before .before .before .before .before .before .before .counts-line .ensures) (wrote-same (sym (completed-text (s .pre .0) (c .before .before .before .before .before .before .complete .ensures))) (c .before .before .flags-text .ensures))))
+    (wrote-both (c .before .before .before .before .before .before .before .before .before .counts-line .ensures) (wrote-same (sym (completed-text (c .before .before .before .before .before .before .complete .ensures))) (c .before .before .flags-text .ensures))))
 
 pub table-text-spec : {M : Type 1} → statement M
 table-text-spec =

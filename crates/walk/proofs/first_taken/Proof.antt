@@ -9,8 +9,8 @@ use borrow.Author.Tests.{not-true, not-false}
 use Rattle.cubes.specs.Cubes.{Candidate}
 use Rattle.bases.specs.Entries.{entries}
 use Rattle.bases.specs.Bases.{takesPoint}
-use Rattle.masks.specs.Entry.{candidateAt}
-use Rattle.masks.proofs.Bounds.{bounds}
+use Rattle.bases.specs.Entry.{candidateAt}
+use Rattle.bases.proofs.Bounds.{bounds}
 use Rattle.walk.specs.Places.{placed}
 use Rattle.walk.proofs.Rows.{placed-next, placed-taken, drop-one}
 use Rattle.walk.proofs.first_taken.Statement.{statement}

@@ -14,9 +14,9 @@ use Rattle.cubes.specs.Records.{recordLength}
 use Rattle.bases.specs.Bases.{vectorsOf}
 use Rattle.walk.specs.declared.Tally.{Tally}
 use Rattle.masks.specs.Points.{primeBy}
-use Rattle.masks.specs.Entry.{candidateAt}
+use Rattle.bases.specs.Entry.{candidateAt}
 use Rattle.walk.specs.Walk.{state}
-use Rattle.masks.proofs.PrimeTest.{entry-record}
+use Rattle.bases.proofs.Entry.{entry-record}
 use Rattle.walk.proofs.Steps.{pass-spent, pass-off, pass-full, pass-write}
 use Rattle.walk.proofs.pass.Statement.{statement}
 use Rattle.walk.proofs.pass.Tie as tie

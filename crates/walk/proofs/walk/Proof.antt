@@ -1,16 +1,15 @@
 -- `walk::walk` meets its contract: the loop stands where `Stand` says, and each way through a turn is one law of it. Assumes nothing.
-use mathlib.Core.Path.{_≡_, refl, ap, _∙_}
-use Prim.Native.Nat.{ℕ, _+_, _-_, _*_, _%_, _^_, _<_, _≤_}
-use native.Mathlib.Nat.{pos-of-ne-zero, one-mul}
+use mathlib.Core.Path.{_≡_, refl, ap}
+use Prim.Native.Nat.{_+_, _-_, _*_, _<_, _≤_}
+use native.Mathlib.Nat.{pos-of-ne-zero}
 use native.Mathlib.Omega.{arith}
-use lib.Dec.{lit<}
-use lib.Pow.{shl-exact}
 use lib.ListN.{length, getD, drop}
 use borrow.Author.Needs.{needs}
 use denote.Ref.{now}
+use Rattle.gf2.proofs.Xor.{shifted-one}
 use Rattle.cubes.specs.Candidates.{candidatesFrom}
 use Rattle.bases.specs.Entries.{entries}
-use Rattle.bases.specs.Bases.{stop}
+use Rattle.bases.specs.Bases.{entryCount, stop}
 use Rattle.masks.specs.Points.{primeBy}
 use Rattle.walk.specs.Places.{FirstTaken}
 use Rattle.walk.specs.Walk.{starting, state, walk}
@@ -23,11 +22,7 @@ Inv-loop on free n degree skip₀ allowance room₀ table tally₀ d₀ p₀ i�
     Stand n on free (length room₀) (walk (primeBy n on free) (drop skip₀ (candidatesFrom n degree)) (state (starting allowance) room₀)) skip d p i (state tally room)
 
 abbrev μ-loop : tie.MeasureT-loop
-μ-loop on free n degree skip₀ allowance room₀ table tally₀ d₀ p₀ i₀ skip room tally d p i = d * 200000 + (64 - p) * 2900 + (2825 - i)
-
--- The number of points.
-size : (n : ℕ) → n ≤ 6 → 1 * 2 ^ n % 18446744073709551616 ≡ 2 ^ n
-size n h = shl-exact 1 n 64 (lit< tt) (omega arith) ∙ one-mul (2 ^ n)
+μ-loop on free n degree skip₀ allowance room₀ table tally₀ d₀ p₀ i₀ skip room tally d p i = d * 200000 + (64 - p) * 2900 + (entryCount - i)
 
 table-requires : tie.Need-table-requires Inv-loop μ-loop
 table-requires c κs = search needs
@@ -120,7 +115,7 @@ loop-again-2 c =
     let v = c .before .before in
     let l = v .before .before .before .before in
     let t = l .loop .inv in
-    to-point t (found (v .before)) (beyond v) (omega (arith, c .before .if3 .taken, size (l .before .before .before .before .args .n) (t .few))) (c .start-of2 .result) (c .start-of2 .ensures)
+    to-point t (found (v .before)) (beyond v) (omega (arith, c .before .if3 .taken, shifted-one (l .before .before .before .before .args .n) 64 (omega (arith, t .few)))) (c .start-of2 .result) (c .start-of2 .ensures)
 
 same-length-2 : tie.Need-same-length-2 Inv-loop μ-loop
 same-length-2 c = c .before .before .before .before .before .before .loop .inv .kept .keeps
@@ -130,7 +125,7 @@ returns-2 c =
     let v = c .before .before in
     let l = v .before .before .before .before in
     let t = l .loop .inv in
-    at-end t (found (v .before)) (beyond v) (omega (arith, c .before .if3 .left, size (l .before .before .before .before .args .n) (t .few))) (c .if4 .taken)
+    at-end t (found (v .before)) (beyond v) (omega (arith, c .before .if3 .left, shifted-one (l .before .before .before .before .args .n) 64 (omega (arith, t .few)))) (c .if4 .taken)
 
 sub-d : tie.Need-sub-d Inv-loop μ-loop
 sub-d c = pos-of-ne-zero (c .if4 .left)
@@ -148,7 +143,7 @@ loop-again-3 c =
     let v = c .before .before .before in
     let l = v .before .before .before .before in
     let t = l .loop .inv in
-    to-degree t (found (v .before)) (beyond v) (omega (arith, c .before .before .if3 .left, size (l .before .before .before .before .args .n) (t .few)))
+    to-degree t (found (v .before)) (beyond v) (omega (arith, c .before .before .if3 .left, shifted-one (l .before .before .before .before .args .n) 64 (omega (arith, t .few))))
     (pos-of-ne-zero (c .before .if4 .left)) (c .start-of3 .result) (c .start-of3 .ensures)
 
 pub walk-spec : {M : Type 1} → statement M

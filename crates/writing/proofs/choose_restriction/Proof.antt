@@ -5,41 +5,30 @@ use mathlib.Core.List.{List}
 use Prim.Native.Nat.{ℕ, _-_, _≤_}
 use native.Mathlib.Omega.{arith}
 use borrow.Author.Needs.{needs}
-use lib.ListN.{length, take, drop, replicate, length-append}
-use lib.Seq.{take-append-seam}
+use lib.ListN.{length, take, replicate}
+use lib.Pow.{pow-mono}
 use Rattle.gf2.specs.Basis.{leadMask}
 use Rattle.basis.specs.declared.Basis.{Basis}
-use Rattle.basis.specs.Reduced.{vectorsOf}
+use Rattle.basis.specs.Reduced.{vectorsOf, Spans}
 use Rattle.table.specs.Decision.{front}
 use Rattle.table.specs.Table.{outside, unordered}
+use Rattle.table.proofs.Fill.{front-fits, front-part}
 use Rattle.space.specs.Restriction.{restriction}
 use Rattle.space.specs.Witness.{flagged}
 use Rattle.projection.specs.Masks.{kept}
-use Rattle.choice.specs.Chosen.{Chose}
-use Rattle.writing.specs.Products.{Restricts}
-use Rattle.writing.proofs.Restrictions.{basis-short, points-kept, points-few, points-inside, points-rise}
+use Rattle.projection.proofs.Restrictions.{spans-few, points-kept, points-few, points-inside, points-rise}
+use Rattle.cubes.specs.Records.{maxListed}
+use Rattle.choice.specs.Chosen.{maxChosen, Chose}
 use Rattle.writing.proofs.choose_restriction.Statement.{statement}
 use Rattle.writing.proofs.choose_restriction.Tie as tie
 
--- The points written to the front of the array, and the part that is lent on.
-module _ (n : ℕ) (b : Basis) (k : Restricts n b) (f : ℕ → Bool) (leads : ℕ) (e : leads ≡ leadMask (vectorsOf b)) where
-  abbrev points : List ℕ
-  points = restriction n (vectorsOf b) f
+-- The points kept are those of the restriction, and fit the array; the part of it that is lent on is these.
+module _ (n : ℕ) (b : Basis) (k : Spans n b) (few : n - b .len ≤ maxListed) (f : ℕ → Bool) (leads : ℕ) (e : leads ≡ leadMask (vectorsOf b)) where
+  enough : length (kept n leads f) ≤ maxChosen
+  enough = omega (arith, ap length (points-kept k f leads e), points-few k f, pow-mono few)
 
-  same : kept n leads f ≡ points
-  same = points-kept n b k f leads e
-
-  enough : length (kept n leads f) ≤ 64
-  enough = omega (arith, ap length same, points-few n b k f)
-
-  module _ (count : ℕ) (q : count ≡ length (kept n leads f)) (array written : List ℕ) (w : written ≡ front (kept n leads f) array) where
-    inside : count ≤ length written
-    inside = omega (arith, ap length w, length-append (kept n leads f) (drop (length (kept n leads f)) array))
-
-    part : take (count - 0) written ≡ points
-    part =
-        let z : count - 0 ≡ length (kept n leads f) = omega arith in
-        rw (w, z) (take-append-seam (kept n leads f) (drop (length (kept n leads f)) array)) ∙ same
+  part : (count : ℕ) → count ≡ length (kept n leads f) → (array written : List ℕ) → written ≡ front (kept n leads f) array → take (count - 0) written ≡ restriction n (vectorsOf b) f
+  part count q array written w = front-part (kept n leads f) array written count w q ∙ points-kept k f leads e
 
 leads-requires : tie.Need-leads-requires
 leads-requires c κs = search needs
@@ -54,10 +43,10 @@ write-kept-requires : tie.Need-write-kept-requires
 write-kept-requires c κs =
     let s = c .before .before .before in
     let l = c .before .before .leads in
-    (s .pre .few, enough (s .args .n) (s .args .basis) (s .pre) (flagged (s .args .flags .now)) (l .result) (l .ensures))
+    (s .pre .0 .few, enough (s .args .n) (s .args .basis) (s .pre .0) (s .pre .1) (flagged (s .args .flags .now)) (l .result) (l .ensures))
 
 sub-choose : tie.Need-sub-choose
-sub-choose c = let s = c .before .before .before .before .before .before in basis-short (s .args .n) (s .args .basis) (s .pre)
+sub-choose c = let s = c .before .before .before .before .before .before in spans-few (s .pre .0)
 
 sub-choose-2 : tie.Need-sub-choose-2
 sub-choose-2 c = search needs
@@ -71,7 +60,7 @@ part-choose-end c =
     let l = c .before .before .before .before .before .before .leads in
     let q = c .before .before .before .before .before .count-kept in
     let w = c .before .before .before .write-kept in
-    inside (s .args .n) (s .args .basis) (s .pre) (flagged (s .args .flags .now)) (l .result) (l .ensures) (q .result) (q .ensures) (replicate 64 0) (w .last .1 .1 .1 .0) (w .ensures)
+    front-fits (kept (s .args .n) (l .result) (flagged (s .args .flags .now))) (replicate maxChosen 0) (w .last .1 .1 .1 .0) (q .result) (w .ensures) (q .ensures)
 
 choose-requires : tie.Need-choose-requires
 choose-requires c κs =
@@ -79,11 +68,11 @@ choose-requires c κs =
     let l = c .before .before .before .before .before .before .before .leads in
     let q = c .before .before .before .before .before .before .count-kept in
     let w = c .before .before .before .before .write-kept in
-    let p = part (s .args .n) (s .args .basis) (s .pre) (flagged (s .args .flags .now)) (l .result) (l .ensures) (q .result) (q .ensures) (replicate 64 0) (w .last .1 .1 .1 .0) (w .ensures) in (
-      s .pre .listed,
+    let p = part (s .args .n) (s .args .basis) (s .pre .0) (s .pre .1) (flagged (s .args .flags .now)) (l .result) (l .ensures) (q .result) (q .ensures) (replicate maxChosen 0) (w .last .1 .1 .1 .0) (w .ensures) in (
+      s .pre .1,
       (
-        ap (outside (s .args .n - s .args .basis .len)) p ∙ points-inside (s .args .n) (s .args .basis) (s .pre) (flagged (s .args .flags .now)),
-        ap unordered p ∙ points-rise (s .args .n) (s .args .basis) (s .pre) (flagged (s .args .flags .now)),
+        ap (outside (s .args .n - s .args .basis .len)) p ∙ points-inside (s .pre .0) (flagged (s .args .flags .now)),
+        ap unordered p ∙ points-rise (s .pre .0) (flagged (s .args .flags .now)),
       ),
     )
 
@@ -94,7 +83,7 @@ returns c =
     let q = c .before .before .before .before .before .before .before .count-kept in
     let w = c .before .before .before .before .before .write-kept in
     subst (λ (l : List ℕ). Chose (s .args .n - s .args .basis .len) l (c .choose .result))
-    (part (s .args .n) (s .args .basis) (s .pre) (flagged (s .args .flags .now)) (l .result) (l .ensures) (q .result) (q .ensures) (replicate 64 0) (w .last .1 .1 .1 .0) (w .ensures))
+    (part (s .args .n) (s .args .basis) (s .pre .0) (s .pre .1) (flagged (s .args .flags .now)) (l .result) (l .ensures) (q .result) (q .ensures) (replicate maxChosen 0) (w .last .1 .1 .1 .0) (w .ensures))
     (c .choose .ensures)
 
 pub choose-restriction-spec : {M : Type 1} → statement M

@@ -7,7 +7,7 @@ use lib.Seq.{length-sets}
 use Rattle.basis.specs.Short.{listed}
 use Rattle.records.specs.Kinds.{variablesKind, encodeEnd}
 use Rattle.form.specs.Encoding.{encodeProducts}
-use Rattle.writing.specs.Products.{productsBy}
+use Rattle.choice.specs.Chosen.{productsBy}
 use Rattle.writing.proofs.Bytes.{stored-length}
 use Rattle.writing.proofs.Lengths.{form-stored}
 use Rattle.writing.proofs.put_form.Statement.{statement}

@@ -1,6 +1,6 @@
 -- `writing::put_product` meets its contract: the factors passed are written behind the kind. Assumes nothing.
 use mathlib.Core.Path.{_≡_, refl, sym, ap, _∙_}
-use mathlib.Core.List.{List, [], _∷_, _++_, append-nil}
+use mathlib.Core.List.{List, [], _∷_, _++_, append-nil, zipWith}
 use Prim.Native.Nat.{ℕ, _+_, _*_, _-_, _≤_, _<_}
 use native.Mathlib.Numerals.{add-one}
 use native.Mathlib.Omega.{arith}
@@ -11,7 +11,7 @@ use Rattle.records.specs.Kinds.{productKind}
 use Rattle.product.specs.Product.{Factor, factor}
 use Rattle.form.specs.Encoding.{encodeFactors, encodeProducts}
 use Rattle.factors.specs.declared.FactorList.{FactorList}
-use Rattle.factors.specs.Factors.{paired, productIn, IsProduct}
+use Rattle.factors.specs.Factors.{productIn, IsProduct}
 use Rattle.factors.proofs.Products.{constants-len, masks-len, masks-few, factor-at, constant-binary}
 use Rattle.writing.proofs.Bytes.{sets-append, factors-next, factors-length}
 use Rattle.writing.proofs.put_product.Statement.{statement}
@@ -20,10 +20,10 @@ use Rattle.writing.proofs.put_product.Tie as tie
 -- The factors as the loop has them, one more of them written, and all.
 module _ (r : FactorList) (k : IsProduct r) where
   abbrev pairs : List Factor
-  pairs = paired (take (r .masks .len) (r .constants .values)) (take (r .masks .len) (r .masks .values))
+  pairs = zipWith factor (take (r .masks .len) (r .constants .values)) (take (r .masks .len) (r .masks .values))
 
   same : pairs ≡ productIn r
-  same = ap (λ (l : ℕ). paired (take l (r .constants .values)) (take (r .masks .len) (r .masks .values))) (masks-len r k ∙ sym (constants-len r k))
+  same = ap (λ (l : ℕ). zipWith factor (take l (r .constants .values)) (take (r .masks .len) (r .masks .values))) (masks-len r k ∙ sym (constants-len r k))
 
   next : (room done later : List ℕ) (at place i : ℕ) → i < r .masks .len → place ≡ at + 1 + 4 * i → done ≡ sets room (at + 1) (encodeFactors (take i pairs))
       → later ≡ sets done place (encodeFactors (factor (getD (r .constants .values) i 0) (getD (r .masks .values) i 0) ∷ []))
@@ -51,7 +51,7 @@ module _ (r : FactorList) (k : IsProduct r) where
 abbrev Inv-loop : tie.InvT-loop
 Inv-loop room₀ at parities variables len place₀ i₀ room place i =
     (i ≤ len) × (place ≡ at + 1 + 4 * i)
-    × (room ≡ sets room₀ (at + 1) (encodeFactors (take i (paired (take len parities) (take len variables)))))
+    × (room ≡ sets room₀ (at + 1) (encodeFactors (take i (zipWith factor (take len parities) (take len variables)))))
 
 abbrev μ-loop : tie.MeasureT-loop
 μ-loop room₀ at parities variables len place₀ i₀ room place i = len - i

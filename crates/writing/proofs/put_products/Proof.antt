@@ -10,15 +10,16 @@ use lib.Seq.{sets, length-sets}
 use Rattle.basis.specs.Short.{listed}
 use Rattle.product.specs.Product.{Factor}
 use Rattle.form.specs.Encoding.{encodeProducts}
-use Rattle.masks.proofs.PrimeTest.{entry-candidate}
+use Rattle.bases.proofs.Entry.{entry-candidate}
 use Rattle.choice.specs.declared.Choice.{Choice}
-use Rattle.choice.specs.Chosen.{chosenAt, chosenBy}
+use Rattle.choice.specs.Chosen.{chosenAt, chosenBy, productsBy, Candidates}
+use Rattle.choice.proofs.Products.{productAt}
 use Rattle.factors.specs.declared.FactorList.{FactorList}
 use Rattle.factors.specs.Factors.{factorsOf, productIn, IsProduct}
 use Rattle.factors.proofs.Products.{product-back, is-product, product-binary}
-use Rattle.writing.specs.Products.{Candidates, productsBy, productLength, productsLength, formLength}
+use Rattle.writing.specs.Products.{productLength, productsLength, formLength}
 use Rattle.writing.proofs.Bytes.{sets-append}
-use Rattle.writing.proofs.Lengths.{lengths-grow, productAt, bytes-next, product-length-at, products-length}
+use Rattle.writing.proofs.Lengths.{lengths-grow, bytes-next, product-length-at, products-length}
 use Rattle.writing.proofs.put_products.Statement.{statement}
 use Rattle.writing.proofs.put_products.Tie as tie
 

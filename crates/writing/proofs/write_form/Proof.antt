@@ -7,7 +7,8 @@ use Rattle.basis.specs.Short.{listed}
 use Rattle.basis.specs.Reduced.{vectorsOf}
 use Rattle.table.proofs.Table.{accepted}
 use Rattle.space.specs.Restriction.{equations}
-use Rattle.writing.proofs.Answers.{space-short, size-refused, size-passed, restricts, candidates, chosen-length, chosen-numbers, chosen-room, write-refused, write-large, write-short, write-accepted}
+use Rattle.projection.proofs.Restrictions.{spans-few, completed-spans}
+use Rattle.writing.proofs.Answers.{size-refused, size-passed, chosen-length, chosen-numbers, chosen-room, table-first, size-first, none-first, write-ways}
 use Rattle.writing.proofs.write_form.Statement.{statement}
 use Rattle.writing.proofs.write_form.Tie as tie
 
@@ -20,7 +21,8 @@ refused-requires c κs = search needs
 returns : tie.Need-returns
 returns c =
     let a = c .before .before .before .before .before .before .args in
-    write-refused (a .n) (a .on .now) (a .free .now) (a .room .now) (c .before .before .table-fault .result) (c .before .before .table-fault .ensures) (c .before .if1 .taken) (c .refused .result) (c .refused .ensures)
+    let t = c .before .before .table-fault in
+    write-ways (a .n) (a .on .now) (a .free .now) (a .room .now) .faulty (t .result) (table-first (a .n) (a .on .now) (a .free .now) (t .result) (t .ensures) (c .before .if1 .taken)) (c .before .if1 .taken) (c .refused .result) (c .refused .ensures)
 
 complete-requires : tie.Need-complete-requires
 complete-requires c κs =
@@ -30,8 +32,8 @@ complete-requires c κs =
 sub-m : tie.Need-sub-m
 sub-m c =
     let a = c .before .before .before .before .before .before .before .before .before .args in
-    let d = c .before .before .before .complete in
-    space-short (a .n) (a .on .now) (a .free .now) (d .result) (d .ensures)
+    let ok = sym (c .before .before .before .before .before .table-fault .ensures) ∙ c .before .before .before .before .if1 .left in
+    spans-few (completed-spans (c .before .before .before .complete .ensures) (accepted (a .n) (a .on .now) (a .free .now) ok .few))
 
 refused-requires-2 : tie.Need-refused-requires-2
 refused-requires-2 c κs = search needs
@@ -41,14 +43,15 @@ returns-2 c =
     let a = c .before .before .before .before .before .before .before .before .before .before .before .args in
     let ok = sym (c .before .before .before .before .before .before .before .table-fault .ensures) ∙ c .before .before .before .before .before .before .if1 .left in
     let d = c .before .before .before .before .before .complete in
-    write-large (a .n) (a .on .now) (a .free .now) (a .room .now) ok (size-refused (a .n) (a .on .now) (a .free .now) (d .result) (d .ensures) (c .before .if2 .taken)) (c .refused2 .result) (c .refused2 .ensures)
+    write-ways (a .n) (a .on .now) (a .free .now) (a .room .now) .faulty _ (size-first (a .n) (a .on .now) (a .free .now) ok (size-refused (a .n) (a .on .now) (a .free .now) (d .result) (d .ensures) (c .before .if2 .taken))) (λ z. omega arith)
+    (c .refused2 .result) (c .refused2 .ensures)
 
 choose-restriction-requires : tie.Need-choose-restriction-requires
 choose-restriction-requires c κs =
     let a = c .before .before .before .before .before .before .before .before .before .before .before .args in
     let ok = sym (c .before .before .before .before .before .before .before .table-fault .ensures) ∙ c .before .before .before .before .before .before .if1 .left in
     let d = c .before .before .before .before .before .complete in
-    restricts (a .n) (a .on .now) (a .free .now) (d .result) (d .ensures) (accepted (a .n) (a .on .now) (a .free .now) ok .few) (c .before .if2 .left)
+    (completed-spans (d .ensures) (accepted (a .n) (a .on .now) (a .free .now) ok .few), c .before .if2 .left)
 
 form-length-requires : tie.Need-form-length-requires
 form-length-requires c κs = search needs
@@ -63,7 +66,8 @@ returns-3 c =
     let d = c .before .before .before .before .before .before .before .before .before .complete in
     let r = c .before .before .before .choose-restriction in
     let long = c .before .before .form-length .ensures ∙ chosen-length (a .n) (a .on .now) (a .free .now) (d .result) (d .ensures) (r .result) (r .ensures) in
-    write-short (a .n) (a .on .now) (a .free .now) (a .room .now) ok (size-passed (a .n) (a .on .now) (a .free .now) (d .result) (d .ensures) (c .before .before .before .before .before .if2 .left)) (omega arith) (c .refused3 .result) (c .refused3 .ensures)
+    write-ways (a .n) (a .on .now) (a .free .now) (a .room .now) .short (none-first (a .n) (a .on .now) (a .free .now) ok (size-passed (a .n) (a .on .now) (a .free .now) (d .result) (d .ensures) (c .before .before .before .before .before .if2 .left))) (omega arith)
+    (c .refused3 .result) (c .refused3 .ensures)
 
 equations-requires : tie.Need-equations-requires
 equations-requires c κs =
@@ -81,7 +85,7 @@ put-form-requires c κs =
       accepted (a .n) (a .on .now) (a .free .now) ok .few,
       (
         short-again (e .result) (equations (a .n) (vectorsOf (d .result .basis))) (e .ensures),
-        (candidates (a .n) (a .on .now) (a .free .now) (d .result) (d .ensures) (r .result) (r .ensures), omega (arith, c .before .before .before .form-length .ensures)),
+        (r .ensures .candidates, omega (arith, c .before .before .before .form-length .ensures)),
       ),
     )
 
@@ -98,7 +102,8 @@ returns-4 c =
     let e = c .before .before .before .before .equations in
     let p = c .before .before .put-form in
     let long = l .ensures ∙ chosen-length (a .n) (a .on .now) (a .free .now) (d .result) (d .ensures) (r .result) (r .ensures) in
-    write-accepted (a .n) (a .on .now) (a .free .now) (a .room .now) ok (size-passed (a .n) (a .on .now) (a .free .now) (d .result) (d .ensures) (c .before .before .before .before .before .before .before .before .before .if2 .left)) (omega arith)
+    write-ways (a .n) (a .on .now) (a .free .now) (a .room .now) .whole
+    (none-first (a .n) (a .on .now) (a .free .now) ok (size-passed (a .n) (a .on .now) (a .free .now) (d .result) (d .ensures) (c .before .before .before .before .before .before .before .before .before .if2 .left))) (omega arith)
     (record { refusal = 0; length = l .result; products = r .result .count }) (p .last .1 .1 .1 .1 .0)
     (chosen-numbers (a .n) (a .on .now) (a .free .now) (d .result) (d .ensures) (r .result) (r .ensures) (l .result) (l .ensures))
     (chosen-room (a .n) (a .on .now) (a .free .now) (d .result) (d .ensures) (r .result) (r .ensures) (listed (e .result)) (a .room .now) (p .last .1 .1 .1 .1 .0) (short-listed (e .result) (equations (a .n) (vectorsOf (d .result .basis))) (e .ensures)) (p .ensures))

@@ -2,15 +2,14 @@
 use mathlib.Core.Path.{_≡_, sym, ap, ap₂, _∙_, subst}
 use mathlib.Core.List.{List, [], _∷_, _++_}
 use Prim.Native.Nat.{ℕ, _+_, _*_, _%_, _-_, _^_, _≤_, _<_}
-use native.Mathlib.Nat.{one-mul}
 use native.Mathlib.Numerals.{add-one}
 use native.Mathlib.Omega.{arith}
 use borrow.Author.Needs.{needs}
-use lib.Dec.{lit<}
 use lib.ListN.{set}
-use lib.Pow.{shl-exact, pow-mono}
+use lib.Pow.{pow-mono}
 use Rattle.gf2.specs.Limits.{maxVariables}
 use Rattle.gf2.specs.Basis.{units}
+use Rattle.gf2.proofs.Xor.{shifted-one}
 use Rattle.gf2.proofs.ReducedBasis.{units-length, units-below, units-reduced, units-span}
 use Rattle.basis.specs.declared.Basis.{Basis}
 use Rattle.basis.specs.Short.{padded}
@@ -51,7 +50,7 @@ loop-less c = search needs
 stored : (l : List ℕ) (i : ℕ) → i < maxVariables → l ≡ padded (units i) → set l i (1 * 2 ^ i % 65536) ≡ padded (units (i + 1))
 unfolding units
 stored l i h e =
-    let v : 1 * 2 ^ i % 65536 ≡ 2 ^ i = shl-exact 1 i 16 (lit< tt) (omega arith) ∙ one-mul (2 ^ i) in
+    let v : 1 * 2 ^ i % 65536 ≡ 2 ^ i = shifted-one i 16 (omega arith) in
     ap₂ (λ (a : List ℕ) (x : ℕ). set a i x) e v
     ∙ subst (λ (k : ℕ). set (padded (units i)) k (2 ^ i) ≡ padded (units i ++ (2 ^ i ∷ []))) (units-length i)
     (padded-push maxVariables (units i) (2 ^ i) (omega (arith, units-length i)))

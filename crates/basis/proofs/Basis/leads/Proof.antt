@@ -1,17 +1,14 @@
 -- `basis::Basis::leads` meets its contract: the mask so far, with the leads of the vectors not passed yet, is the whole. Assumes nothing.
 use mathlib.Core.Path.{_≡_, sym, _∙_}
 use Prim.Native.Nat.{ℕ, _+_, _*_, _%_, _-_, _^_, _≤_, _<_}
-use native.Mathlib.Nat.{one-mul}
 use native.Mathlib.Omega.{arith}
 use borrow.Author.Needs.{needs}
 use lib.Bits.{xor-zero-r}
-use lib.Dec.{lit<}
 use lib.ListN.{take, drop, getD}
-use lib.Pow.{shl-exact}
 use Rattle.gf2.specs.Limits.{maxVariables}
 use Rattle.gf2.specs.Bits.{_⊕_, lead}
 use Rattle.gf2.specs.Basis.{leadMask}
-use Rattle.gf2.proofs.Xor.{xor-assoc}
+use Rattle.gf2.proofs.Xor.{shifted-one, xor-assoc}
 use Rattle.gf2.proofs.Leads.{lead-fits}
 use Rattle.basis.specs.declared.Basis.{Basis}
 use Rattle.basis.specs.Reduced.{vectorsOf, IsBasis}
@@ -45,7 +42,7 @@ module _ (b : Basis) (k : IsBasis b) (i : ℕ) (h : i < b .len) where
   passed : (m p : ℕ) → p ≡ lead (getD (b .vectors) i 0) → m ⊕ (1 * 2 ^ p % 65536) ⊕ leadMask (drop (i + 1) (vectorsOf b)) ≡ m ⊕ leadMask (drop i (vectorsOf b))
   unfolding leadMask
   passed m p e =
-      let x : 1 * 2 ^ p % 65536 ≡ 2 ^ p = shl-exact 1 p 16 (lit< tt) (omega (arith, low)) ∙ one-mul (2 ^ p) in
+      let x : 1 * 2 ^ p % 65536 ≡ 2 ^ p = shifted-one p 16 (omega (arith, low)) in
       rw (x, vector-next b k i h, e) (xor-assoc m (2 ^ lead (getD (b .vectors) i 0)) (leadMask (drop (i + 1) (vectorsOf b))))
 
 cast-mask : tie.Need-cast-mask Inv-loop μ-loop

@@ -1,14 +1,15 @@
 -- `masks::points::every_point` meets its contract: at each turn the vectors not passed yet are what is left of the fold. Assumes nothing.
 use mathlib.Core.Path.{_≡_, refl, sym, ap, _∙_}
 use mathlib.Core.Bool.{Bool}
-use Prim.Native.Nat.{ℕ}
+use Prim.Native.Nat.{ℕ, _<_}
 use native.Mathlib.Omega.{arith}
 use borrow.Author.Needs.{needs}
 use Rattle.gf2.specs.Bits.{bit}
 use Rattle.cubes.specs.Primes.{everyPoint}
 use Rattle.bases.specs.Bases.{vectorsOf}
-use Rattle.masks.specs.Points.{Fitting}
-use Rattle.masks.proofs.Folds.{fitting-step, every-on, every-end}
+use Rattle.masks.specs.Points.{maskSize, Fitting}
+use Rattle.bases.proofs.Entry.{vectors-each}
+use Rattle.masks.proofs.Folds.{every-on, every-end}
 use Rattle.masks.proofs.points.every_point.Statement.{statement}
 use Rattle.masks.proofs.points.every_point.Tie as tie
 
@@ -23,7 +24,7 @@ loop-holds : tie.Need-loop-holds Inv-loop μ-loop
 loop-holds c = (c .pre, refl)
 
 moved-requires : tie.Need-moved-requires Inv-loop μ-loop
-moved-requires c κs = let l = c .before .loop in fitting-step (l .left) (l .rest) (omega arith) (l .inv .0) .0
+moved-requires c κs = let l = c .before .loop in vectors-each (λ c. c < maskSize) (l .left) (l .rest) (omega arith) (l .inv .0) .0
 
 sub-left : tie.Need-sub-left Inv-loop μ-loop
 sub-left c = search needs
@@ -34,7 +35,7 @@ loop-less c = search needs
 loop-again : tie.Need-loop-again Inv-loop μ-loop
 loop-again c =
     let l = c .before .before .loop in
-    (fitting-step (l .left) (l .rest) (omega arith) (l .inv .0) .1, every-on (l .left) (l .rest) (l .every) (c .moved .result) (omega arith) (c .moved .ensures) ∙ l .inv .1)
+    (vectors-each (λ c. c < maskSize) (l .left) (l .rest) (omega arith) (l .inv .0) .1, every-on (l .left) (l .rest) (l .every) (c .moved .result) (omega arith) (c .moved .ensures) ∙ l .inv .1)
 
 returns : tie.Need-returns Inv-loop μ-loop
 returns c =

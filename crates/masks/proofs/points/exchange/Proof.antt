@@ -1,18 +1,17 @@
 -- `masks::points::exchange` meets its contract: the bits of the low places and of the others change places. Assumes nothing.
-use mathlib.Core.Path.{_≡_, _∙_}
+use mathlib.Core.Path.{_≡_}
 use Prim.Native.Nat.{ℕ, _*_, _%_, _^_, _<_}
-use native.Mathlib.Nat.{one-mul}
 use native.Mathlib.Omega.{arith}
-use lib.Dec.{lit<}
-use lib.Pow.{shl-exact, pow-lt}
+use lib.Pow.{pow-lt}
 use borrow.Author.Needs.{needs}
+use Rattle.gf2.proofs.Xor.{shifted-one}
 use Rattle.masks.proofs.Moves.{exchange-moved}
 use Rattle.masks.proofs.points.exchange.Statement.{statement}
 use Rattle.masks.proofs.points.exchange.Tie as tie
 
 -- The width of a block.
-width : (k : ℕ) → k < 6 → 1 * 2 ^ k % 18446744073709551616 ≡ 2 ^ k
-width k h = shl-exact 1 k 64 (lit< tt) (omega arith) ∙ one-mul (2 ^ k)
+width : (k : ℕ) → k < 6 → 1 * 2 ^ k % 2 ^ 64 ≡ 2 ^ k
+width k h = shifted-one k 64 (omega arith)
 
 shl-width : tie.Need-shl-width
 shl-width c = search needs

@@ -1,6 +1,6 @@
 -- `masks::points::mask_of` meets its contract: the points from place i on are what is left to be put in. Assumes nothing.
-use mathlib.Core.Path.{_≡_, refl, sym, ap, _∙_}
-use mathlib.Core.Bool.{Bool, true, false, _||_}
+use mathlib.Core.Path.{_≡_, sym, ap, _∙_}
+use mathlib.Core.Bool.{Bool, _||_, or-false}
 use mathlib.Core.List.{[]}
 use Prim.Native.Nat.{ℕ, _-_, _≤_}
 use native.Mathlib.Omega.{arith}
@@ -56,11 +56,7 @@ returns c =
     let s = c .before .before .before in
     let l = c .before .loop in
     let end : drop (l .i) (s .args .points .now) ≡ [] = drop-of-length-le (s .args .points .now) {i = l .i} (omega arith) in
-    λ x. sym (or-off (bit x (l .mask))) ∙ ap (λ ps. bit x (l .mask) || holds ps x) (sym end) ∙ l .inv .1 x
-  where
-    or-off : (a : Bool) → a || false ≡ a
-    or-off true = refl
-    or-off false = refl
+    λ x. sym (or-false (bit x (l .mask))) ∙ ap (λ ps. bit x (l .mask) || holds ps x) (sym end) ∙ l .inv .1 x
 
 pub mask-of-spec : {M : Type 1} → statement M
 mask-of-spec =

@@ -1,44 +1,34 @@
--- Laws of the table of bases by place: its bounds, and whether an entry is taken. Read next: PrimeTest.
+-- Laws of the table by place: its bounds, and the entries of a number of vectors. Read next: Entry.
 use mathlib.Core.Path.{_≡_, refl, ap, _∙_, subst}
-use mathlib.Core.Bool.{true, false, _&&_}
-use Prim.Native.Nat.{ℕ, _+_, _-_, _^_, _≤_, _<_}
+use mathlib.Core.Bool.{true, _&&_}
+use Prim.Native.Nat.{ℕ, _+_, _-_, _≤_, _<_}
 use native.Mathlib.Omega.{arith}
-use lib.Dec.{eqb, leb}
-use lib.Bits.{bitAnd}
+use lib.Dec.{leb}
 use lib.ListN.{length, getD, take}
 use lib.Seq.{length-slice, getD-drop, getD-take}
-use borrow.Author.Tests.{leb-true, lt-ltb, le-ltb}
+use borrow.Author.Tests.{leb-true}
 use Rattle.gf2.specs.Finite.{Mem, all}
 use Rattle.gf2.proofs.Logic.{and-l, and-r}
 use Rattle.gf2.proofs.Finite.{all-at, getD-mem}
 use Rattle.bases.specs.Entries.{entries}
-use Rattle.bases.specs.Bases.{start, stop, entriesOf, maskOf, takesPoint}
+use Rattle.bases.specs.Bases.{entryCount, start, stop, entriesOf}
 
 -- ---- bounds
 
-pub entries-length : length entries ≡ 2825
+pub entries-length : length entries ≡ entryCount
 unfolding entries
 entries-length = refl
 
-all-bounds : all (λ d. leb (start d) (stop d) && leb (stop d) 2825) 7 ≡ true
+all-bounds : all (λ d. leb (start d) (stop d) && leb (stop d) entryCount) 7 ≡ true
 unfolding all
 all-bounds = refl
 
-pub bounds : (d : ℕ) → d ≤ 6 → (start d ≤ stop d) × (stop d ≤ 2825)
+pub bounds : (d : ℕ) → d ≤ 6 → (start d ≤ stop d) × (stop d ≤ entryCount)
 bounds d h =
-    let t = all-at (λ d. leb (start d) (stop d) && leb (stop d) 2825) 7 all-bounds d (omega arith) in
-    (leb-true (start d) (stop d) (and-l (leb (start d) (stop d)) (leb (stop d) 2825) t), leb-true (stop d) 2825 (and-r (leb (start d) (stop d)) (leb (stop d) 2825) t))
+    let t = all-at (λ d. leb (start d) (stop d) && leb (stop d) entryCount) 7 all-bounds d (omega arith) in
+    (leb-true (start d) (stop d) (and-l (leb (start d) (stop d)) (leb (stop d) entryCount) t), leb-true (stop d) entryCount (and-r (leb (start d) (stop d)) (leb (stop d) entryCount) t))
 
 -- ---- entries
-
--- Whether an entry is taken, by its lead bits.
-pub takes-fitting : (n p e : ℕ) → maskOf e < 2 ^ n → eqb (bitAnd p (maskOf e)) 0 ≡ takesPoint n p e
-unfolding takesPoint
-takes-fitting n p e h = rw (lt-ltb (maskOf e) (2 ^ n) h)
-
-pub takes-not : (n p e : ℕ) → 2 ^ n ≤ maskOf e → false ≡ takesPoint n p e
-unfolding takesPoint
-takes-not n p e h = rw (le-ltb (maskOf e) (2 ^ n) h)
 
 -- The entries of d vectors, by their place in the table.
 pub entries-count : (d : ℕ) → d ≤ 6 → length (entriesOf d) ≡ stop d - start d
