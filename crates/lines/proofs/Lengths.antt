@@ -14,7 +14,7 @@ use Rattle.gf2.proofs.Finite.{map-mem}
 use Rattle.gf2.proofs.Variables.{places-count}
 use Rattle.product.specs.Product.{Factor}
 use Rattle.text.specs.Decimal.{decimal}
-use Rattle.text.specs.Pieces.{spacedNumber, spaced, name, names}
+use Rattle.text.specs.Pieces.{labelled, spacedNumber, spaced, name, names}
 use Rattle.text.proofs.Decimal.{decimal-length}
 use Rattle.lines.specs.Words.{freeWord, equalsWord, plusWord, plusSign, equalsSign, lineEnd}
 use Rattle.lines.specs.Lines.{numberLine, countsLine, numbersText, numbersLine, variablesText, equationLine, equationLines, factorText, productText, productLine, productLines}
@@ -34,7 +34,7 @@ four-digits n h = decimal-length 3 n h
 
 pub number-length : (word : List ℕ) (n k : ℕ) → length (decimal n) ≤ k → length (numberLine word n) ≤ length word + k + 1
 unfolding numberLine
-number-length word n k h = omega (arith, length-append word (decimal n ++ lineEnd), length-append (decimal n) lineEnd)
+number-length word n k h = omega (arith, length-append (labelled word n) lineEnd, length-append word (decimal n))
 
 pub counts-length : (on free : ℕ) → on < 10000 → free < 10000 → length (countsLine on free) ≤ 18
 unfolding countsLine

@@ -5,39 +5,33 @@ use Prim.Native.Nat.{ℕ, zero, suc, _+_}
 use native.Mathlib.Omega.{arith}
 use lib.ListN.{length, getD}
 use Rattle.product.specs.Product.{Factor, factor}
-use Rattle.text.specs.Pieces.{spaced}
 use Rattle.text.proofs.Pieces.{pieces, pieces-same, pieces-front, flat-pieces}
-use Rattle.lines.specs.Words.{noneWord, oneWord}
-use Rattle.lines.specs.Lines.{numbersText, equationLine, equationLines, factorText, productText}
+use Rattle.lines.specs.Lines.{listText, equationLine, equationLines, factorText}
 
--- An empty list prints as `-`, any other as its numbers.
-pub numbers-none : (ps : List ℕ) → length ps ≡ 0 → noneWord ≡ numbersText ps
-numbers-none [] e = refl
-numbers-none (p ∷ ps) e = absurd (omega arith)
+-- An empty list prints as a word of its own, any other as its elements.
+module _ {A : Type 0} (empty : List ℕ) (some : List A → List ℕ) where
+  pub list-none : (l : List A) → length l ≡ 0 → empty ≡ listText empty some l
+  list-none [] e = refl
+  list-none (a ∷ l) e = absurd (omega arith)
 
-pub numbers-some : (ps : List ℕ) → (length ps ≡ 0 → ⊥) → spaced ps ≡ numbersText ps
-numbers-some [] e = absurd (e refl)
-numbers-some (p ∷ ps) e = refl
+  pub list-some : (l : List A) → (length l ≡ 0 → ⊥) → some l ≡ listText empty some l
+  list-some [] e = absurd (e refl)
+  list-some (a ∷ l) e = refl
 
--- A product without factors prints as `1`, any other as its factors.
-pub factors-none : (n : ℕ) (fs : List Factor) → length fs ≡ 0 → oneWord ≡ productText n fs
-factors-none n [] e = refl
-factors-none n (f ∷ fs) e = absurd (omega arith)
+-- The line of the equation at a place of a list of masks.
+abbrev pub equationAt : ℕ → ℕ → List ℕ → ℕ → List ℕ
+equationAt n index masks i = equationLine n (index + i) (getD masks i 0)
 
-pub factors-some : (n : ℕ) (fs : List Factor) → (length fs ≡ 0 → ⊥) → flatMap (factorText n) fs ≡ productText n fs
-factors-some n [] e = absurd (e refl)
-factors-some n (f ∷ fs) e = refl
-
-pub equation-pieces : (n index : ℕ) (masks : List ℕ) → equationLines n index masks ≡ pieces (λ i. equationLine n (index + i) (getD masks i 0)) (length masks)
+pub equation-pieces : (n index : ℕ) (masks : List ℕ) → equationLines n index masks ≡ pieces (equationAt n index masks) (length masks)
 unfolding equationLines
 equation-pieces n index [] = refl
 equation-pieces n index (mask ∷ masks) =
     let first : index + 0 ≡ index = omega arith in
     ap (λ (r : List ℕ). equationLine n index mask ++ r)
     (equation-pieces n (index + 1) masks
-    ∙ pieces-same (λ i. equationLine n (index + 1 + i) (getD masks i 0)) (λ i. equationLine n (index + suc i) (getD masks i 0)) (length masks) (λ i. later i))
+    ∙ pieces-same (equationAt n (index + 1) masks) (λ i. equationLine n (index + suc i) (getD masks i 0)) (length masks) (λ i. later i))
     ∙ ap (λ (k : ℕ). equationLine n k mask ++ pieces (λ i. equationLine n (index + suc i) (getD masks i 0)) (length masks)) (sym first)
-    ∙ sym (pieces-front (λ i. equationLine n (index + i) (getD (mask ∷ masks) i 0)) (length masks))
+    ∙ sym (pieces-front (equationAt n index (mask ∷ masks)) (length masks))
   where
     later : (i : ℕ) → equationLine n (index + 1 + i) (getD masks i 0) ≡ equationLine n (index + suc i) (getD masks i 0)
     later i =
@@ -61,10 +55,14 @@ zip-at (c ∷ cs) [] e i = absurd (omega arith)
 zip-at (c ∷ cs) (m ∷ ms) e zero = refl
 zip-at (c ∷ cs) (m ∷ ms) e (suc i) = zip-at cs ms (omega arith) i
 
+-- The text of the factor at a place of the lists.
+abbrev pub factorAt : ℕ → List ℕ → List ℕ → ℕ → List ℕ
+factorAt n constants masks i = factorText n (factor (getD constants i 0) (getD masks i 0))
+
 pub factors-pieces : (n : ℕ) (constants masks : List ℕ) → length constants ≡ length masks
-    → flatMap (factorText n) (zipWith factor constants masks) ≡ pieces (λ i. factorText n (factor (getD constants i 0) (getD masks i 0))) (length masks)
+    → flatMap (factorText n) (zipWith factor constants masks) ≡ pieces (factorAt n constants masks) (length masks)
 factors-pieces n cs ms e =
     flat-pieces (factorText n) (factor 0 0) (zipWith factor cs ms)
     ∙ ap (pieces (λ i. factorText n (getD (zipWith factor cs ms) i (factor 0 0)))) (zip-length cs ms e)
-    ∙ pieces-same (λ i. factorText n (getD (zipWith factor cs ms) i (factor 0 0))) (λ i. factorText n (factor (getD cs i 0) (getD ms i 0))) (length ms)
+    ∙ pieces-same (λ i. factorText n (getD (zipWith factor cs ms) i (factor 0 0))) (factorAt n cs ms) (length ms)
     (λ i. ap (factorText n) (zip-at cs ms e i))

@@ -4,22 +4,25 @@ use Prim.Native.Nat.{ℕ, _+_}
 use Rattle.gf2.specs.Bits.{bit}
 use Rattle.gf2.specs.Basis.{placesAt, variablesAt}
 use Rattle.product.specs.Product.{Factor}
-use Rattle.text.specs.Decimal.{decimal}
-use Rattle.text.specs.Pieces.{spaced, names}
-use Rattle.lines.specs.Words.{blankWord, onWord, freeWord, equationLetter, equalsWord, plusWord, noneWord, productWord, oneWord, plusSign, equalsSign, lineEnd}
+use Rattle.text.specs.Pieces.{labelled, blankWord, spaced, names}
+use Rattle.lines.specs.Words.{onWord, freeWord, equationLetter, equalsWord, plusWord, noneWord, productWord, oneWord, plusSign, equalsSign, lineEnd}
 
 -- A word and a number: `variables 4`, `degree 1`, `refused 5`.
 unfoldable pub numberLine : List ℕ → ℕ → List ℕ
-numberLine word n = word ++ (decimal n ++ lineEnd)
+numberLine word n = labelled word n ++ lineEnd
 
 -- `on 10 free 0`
 unfoldable pub countsLine : ℕ → ℕ → List ℕ
-countsLine on free = onWord ++ (decimal on ++ numberLine freeWord free)
+countsLine on free = labelled onWord on ++ numberLine freeWord free
+
+-- The text of a list, or a word of its own for an empty one.
+abbrev pub listText : {A : Type 0} → List ℕ → (List A → List ℕ) → List A → List ℕ
+listText empty some [] = empty
+listText empty some (a ∷ rest) = some (a ∷ rest)
 
 -- Numbers, each after one blank; an empty list prints as `-`.
 abbrev pub numbersText : List ℕ → List ℕ
-numbersText [] = noneWord
-numbersText (p ∷ ps) = spaced (p ∷ ps)
+numbersText ps = listText noneWord spaced ps
 
 -- A word and a list of numbers: `restriction 2 3 5 6 7`, `canonical -`.
 unfoldable pub numbersLine : List ℕ → List ℕ → List ℕ
@@ -31,7 +34,7 @@ variablesText between n mask = names between (variablesAt n (placesAt n (λ k. b
 
 -- `y3 = x3 + x4`
 unfoldable pub equationLine : ℕ → ℕ → ℕ → List ℕ
-equationLine n index mask = equationLetter ++ (decimal index ++ (equalsWord ++ (variablesText plusWord n mask ++ lineEnd)))
+equationLine n index mask = labelled equationLetter index ++ (equalsWord ++ (variablesText plusWord n mask ++ lineEnd))
 
 -- One such line for each mask, from the given index on.
 unfoldable pub equationLines : ℕ → ℕ → List ℕ → List ℕ
@@ -40,12 +43,11 @@ equationLines n index (mask ∷ masks) = equationLine n index mask ++ equationLi
 
 -- ` x1+x3+x4=0`, a factor after its blank.
 unfoldable pub factorText : ℕ → Factor → List ℕ
-factorText n f = blankWord ++ (variablesText plusSign n (f .mask) ++ (equalsSign ++ decimal (f .constant)))
+factorText n f = blankWord ++ (variablesText plusSign n (f .mask) ++ labelled equalsSign (f .constant))
 
 -- The factors in their order; a product without factors prints as `1`.
 abbrev pub productText : ℕ → List Factor → List ℕ
-productText n [] = oneWord
-productText n (f ∷ fs) = flatMap (factorText n) (f ∷ fs)
+productText n fs = listText oneWord (flatMap (factorText n)) fs
 
 -- `product x1+x2=1 x1+x3+x4=0`
 unfoldable pub productLine : ℕ → List Factor → List ℕ

@@ -50,10 +50,6 @@ productWord = 112 ∷ 114 ∷ 111 ∷ 100 ∷ 117 ∷ 99 ∷ 116 ∷ []
 abbrev pub oneWord : List ℕ
 oneWord = 32 ∷ 49 ∷ []
 
--- ` `
-abbrev pub blankWord : List ℕ
-blankWord = 32 ∷ []
-
 -- `+`
 abbrev pub plusSign : List ℕ
 plusSign = 43 ∷ []

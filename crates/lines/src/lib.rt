@@ -14,8 +14,7 @@ pub fn number_line(room: &mut [u8], at: usize, word: &[u8], n: usize) -> usize
     requires { ⌜ HasRoom (now room) at (numberLine (now word) n) ⌝ }
     ensures { λ r. ⌜ Wrote (now (room .entry)) at (numberLine (now (word .entry)) n) (now (room .exit)) r ⌝ }
 {
-    let next = text::write_word(&mut *room, at, word);
-    let end = text::write_decimal(&mut *room, next, n);
+    let end = text::write_labelled(&mut *room, at, word, n);
     text::write_word(&mut *room, end, b"\n")
 }
 
@@ -24,8 +23,7 @@ pub fn counts_line(room: &mut [u8], at: usize, on: usize, free: usize) -> usize
     requires { ⌜ HasRoom (now room) at (countsLine on free) ⌝ }
     ensures { λ r. ⌜ Wrote (now (room .entry)) at (countsLine on free) (now (room .exit)) r ⌝ }
 {
-    let next = text::write_word(&mut *room, at, b"on ");
-    let rest = text::write_decimal(&mut *room, next, on);
+    let rest = text::write_labelled(&mut *room, at, b"on ", on);
     number_line(&mut *room, rest, b" free ", free)
 }
 
@@ -68,9 +66,8 @@ fn equation_line(room: &mut [u8], at: usize, n: usize, index: usize, mask: u16) 
     requires { ⌜ HasRoom (now room) at (equationLine n index mask) ⌝ }
     ensures { λ r. ⌜ Wrote (now (room .entry)) at (equationLine n index mask) (now (room .exit)) r ⌝ }
 {
-    let next = text::write_word(&mut *room, at, b"y");
-    let middle = text::write_decimal(&mut *room, next, index);
-    let right = text::write_word(&mut *room, middle, b" = ");
+    let left = text::write_labelled(&mut *room, at, b"y", index);
+    let right = text::write_word(&mut *room, left, b" = ");
     let end = variables_text(&mut *room, right, b" + ", n, mask);
     text::write_word(&mut *room, end, b"\n")
 }
@@ -98,8 +95,7 @@ fn factor_text(room: &mut [u8], at: usize, n: usize, constant: u16, mask: u16) -
 {
     let next = text::write_word(&mut *room, at, b" ");
     let left = variables_text(&mut *room, next, b"+", n, mask);
-    let right = text::write_word(&mut *room, left, b"=");
-    text::write_decimal(&mut *room, right, constant as usize)
+    text::write_labelled(&mut *room, left, b"=", constant as usize)
 }
 
 // The factors in their order, one for each constant and mask.

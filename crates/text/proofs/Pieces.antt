@@ -42,7 +42,11 @@ unfolding flatMap
 flat-pieces f d [] = refl
 flat-pieces f d (a ∷ l) = ap (λ (r : List ℕ). f a ++ r) (flat-pieces f d l) ∙ sym (pieces-front (λ i. f (getD (a ∷ l) i d)) (length l))
 
-pub spaced-pieces : (ps : List ℕ) → spaced ps ≡ pieces (λ i. spacedNumber (getD ps i 0)) (length ps)
+-- The number at a place of a list, after its blank.
+abbrev pub spacedAt : List ℕ → ℕ → List ℕ
+spacedAt ps i = spacedNumber (getD ps i 0)
+
+pub spaced-pieces : (ps : List ℕ) → spaced ps ≡ pieces (spacedAt ps) (length ps)
 unfolding spaced
 spaced-pieces ps = flat-pieces spacedNumber 0 ps
 

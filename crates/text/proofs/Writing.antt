@@ -46,6 +46,14 @@ module _ {before : List ℕ} {at : ℕ} {first after : List ℕ} {next : ℕ} wh
 pub room-first : {before : List ℕ} {at : ℕ} (first second : List ℕ) → HasRoom before at (first ++ second) → HasRoom before at first
 room-first first second h = record { fits = omega (arith, h .fits, length-append first second) }
 
+-- Room for three is, after the first, room for the second, and after the second for the third.
+module _ {before : List ℕ} {at : ℕ} {first after : List ℕ} {next : ℕ} (second third : List ℕ) (h : HasRoom before at (first ++ (second ++ third))) (w : Wrote before at first after next) where
+  pub room-second : HasRoom after next second
+  room-second = room-first second third (room-then (second ++ third) h w)
+
+  pub room-third : {last : List ℕ} {end : ℕ} → Wrote after next second last end → HasRoom last end third
+  room-third v = room-then third (room-then (second ++ third) h w) v
+
 -- Room for a text, as an equal text.
 pub room-same : {before : List ℕ} {at : ℕ} {first second : List ℕ} → first ≡ second → HasRoom before at first → HasRoom before at second
 room-same {before} {at} e h = subst (λ (t : List ℕ). HasRoom before at t) e h

@@ -5,7 +5,7 @@ ghost use mathlib.Core.List.{_∷_, [], _++_};
 ghost use Prim.Native.Nat.{_+_, _<_};
 ghost use lib.Dec.{eqb};
 ghost use Rattle.text.specs.Decimal.{digit, decimal};
-ghost use Rattle.text.specs.Pieces.{spacedNumber, spaced, name, names};
+ghost use Rattle.text.specs.Pieces.{labelled, spaced, name, names};
 ghost use Rattle.text.specs.Writing.{HasRoom, Wrote};
 
 // A word.
@@ -43,13 +43,13 @@ pub fn write_decimal(room: &mut [u8], at: usize, n: usize) -> usize
     write_digit(&mut *room, next, n % 10)
 }
 
-// A number in decimal after one blank.
-fn write_spaced(room: &mut [u8], at: usize, n: u16) -> usize
-    requires { ⌜ HasRoom (now room) at (spacedNumber n) ⌝ }
-    ensures { λ r. ⌜ Wrote (now (room .entry)) at (spacedNumber n) (now (room .exit)) r ⌝ }
+// A word and a number in decimal after it.
+pub fn write_labelled(room: &mut [u8], at: usize, word: &[u8], n: usize) -> usize
+    requires { ⌜ HasRoom (now room) at (labelled (now word) n) ⌝ }
+    ensures { λ r. ⌜ Wrote (now (room .entry)) at (labelled (now (word .entry)) n) (now (room .exit)) r ⌝ }
 {
-    let next = write_word(&mut *room, at, b" ");
-    write_decimal(&mut *room, next, n as usize)
+    let next = write_word(&mut *room, at, word);
+    write_decimal(&mut *room, next, n)
 }
 
 // Numbers in decimal, each after one blank.
@@ -60,7 +60,7 @@ pub fn write_numbers(room: &mut [u8], at: usize, numbers: &[u16]) -> usize
     let mut next = at;
     let mut i = 0;
     while i < numbers.len() {
-        next = write_spaced(&mut *room, next, numbers[i]);
+        next = write_labelled(&mut *room, next, b" ", numbers[i] as usize);
         i += 1;
     }
     next
@@ -77,22 +77,13 @@ fn write_between(room: &mut [u8], at: usize, between: &[u8], i: usize) -> usize
     write_word(&mut *room, at, between)
 }
 
-// The name of one variable, by its index.
-fn write_name(room: &mut [u8], at: usize, index: u16) -> usize
-    requires { ⌜ HasRoom (now room) at (name index) ⌝ }
-    ensures { λ r. ⌜ Wrote (now (room .entry)) at (name index) (now (room .exit)) r ⌝ }
-{
-    let next = write_word(&mut *room, at, b"x");
-    write_decimal(&mut *room, next, index as usize)
-}
-
 // One turn of `write_names`: the name at a place of the list, after the text between two unless it is the first.
 fn write_next(room: &mut [u8], at: usize, between: &[u8], i: usize, index: u16) -> usize
     requires { ⌜ HasRoom (now room) at (cond (eqb i 0) [] (now between) ++ name index) ⌝ }
     ensures { λ r. ⌜ Wrote (now (room .entry)) at (cond (eqb i 0) [] (now (between .entry)) ++ name index) (now (room .exit)) r ⌝ }
 {
     let next = write_between(&mut *room, at, between, i);
-    write_name(&mut *room, next, index)
+    write_labelled(&mut *room, next, b"x", index as usize)
 }
 
 // The names of variables, by their indices, with a text between two.

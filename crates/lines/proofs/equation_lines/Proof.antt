@@ -1,18 +1,17 @@
 -- `lines::equation_lines` meets its contract: the lines of the masks passed are written. Assumes nothing.
-use Prim.Native.Nat.{_+_, _≤_, _-_}
+use Prim.Native.Nat.{_≤_, _-_}
 use native.Mathlib.Omega.{arith}
 use borrow.Author.Needs.{needs}
-use lib.ListN.{length, getD}
+use lib.ListN.{length}
 use Rattle.text.specs.Writing.{Wrote}
 use Rattle.text.proofs.Pieces.{pieces}
 use Rattle.text.proofs.Writing.{room-piece, wrote-none, wrote-length, wrote-piece, wrote-pieces}
-use Rattle.lines.specs.Lines.{equationLine}
-use Rattle.lines.proofs.Lines.{equation-pieces}
+use Rattle.lines.proofs.Lines.{equationAt, equation-pieces}
 use Rattle.lines.proofs.equation_lines.Statement.{statement}
 use Rattle.lines.proofs.equation_lines.Tie as tie
 
 abbrev Inv-loop : tie.InvT-loop
-Inv-loop room₀ at n masks next₀ i₀ room next i = (i ≤ length masks) × Wrote room₀ at (pieces (λ k. equationLine n (1 + k) (getD masks k 0)) i) room next
+Inv-loop room₀ at n masks next₀ i₀ room next i = (i ≤ length masks) × Wrote room₀ at (pieces (equationAt n 1 masks) i) room next
 
 abbrev μ-loop : tie.MeasureT-loop
 μ-loop room₀ at n masks next₀ i₀ room next i = length masks - i
@@ -34,7 +33,7 @@ equation-line-requires c κs =
     let l = c .before .before .before .loop in
     let s = c .before .before .before .before .before .before in
     let a = s .args in
-    (s .pre .0, room-piece (λ k. equationLine (a .n) (1 + k) (getD (a .masks .now) k 0)) (l .i) (length (a .masks .now)) (equation-pieces (a .n) 1 (a .masks .now)) (s .pre .1) (omega arith) (l .inv .1))
+    (s .pre .0, room-piece (equationAt (a .n) 1 (a .masks .now)) (l .i) (length (a .masks .now)) (equation-pieces (a .n) 1 (a .masks .now)) (s .pre .1) (omega arith) (l .inv .1))
 
 add-i : tie.Need-add-i Inv-loop μ-loop
 add-i c = search needs
@@ -46,7 +45,7 @@ loop-again : tie.Need-loop-again Inv-loop μ-loop
 loop-again c =
     let l = c .before .before .before .before .before .before .loop in
     let a = c .before .before .before .before .before .before .before .before .before .args in
-    (omega arith, wrote-piece (λ k. equationLine (a .n) (1 + k) (getD (a .masks .now) k 0)) (l .i) (l .inv .1) (c .before .before .equation-line .ensures))
+    (omega arith, wrote-piece (equationAt (a .n) 1 (a .masks .now)) (l .i) (l .inv .1) (c .before .before .equation-line .ensures))
 
 same-length : tie.Need-same-length Inv-loop μ-loop
 same-length c = wrote-length (c .before .loop .inv .1)
@@ -56,7 +55,7 @@ returns c =
     let l = c .before .loop in
     let s = c .before .before .before .before in
     let a = s .args in
-    wrote-pieces (λ k. equationLine (a .n) (1 + k) (getD (a .masks .now) k 0)) (l .i) (length (a .masks .now)) (equation-pieces (a .n) 1 (a .masks .now)) (omega arith) (l .inv .1)
+    wrote-pieces (equationAt (a .n) 1 (a .masks .now)) (l .i) (length (a .masks .now)) (equation-pieces (a .n) 1 (a .masks .now)) (omega arith) (l .inv .1)
 
 pub equation-lines-spec : {M : Type 1} → statement M
 equation-lines-spec =

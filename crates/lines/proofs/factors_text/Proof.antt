@@ -2,18 +2,16 @@
 use Prim.Native.Nat.{_≤_, _-_}
 use native.Mathlib.Omega.{arith}
 use borrow.Author.Needs.{needs}
-use lib.ListN.{length, getD}
-use Rattle.product.specs.Product.{factor}
+use lib.ListN.{length}
 use Rattle.text.specs.Writing.{Wrote}
 use Rattle.text.proofs.Pieces.{pieces}
 use Rattle.text.proofs.Writing.{room-piece, wrote-none, wrote-length, wrote-piece, wrote-pieces}
-use Rattle.lines.specs.Lines.{factorText}
-use Rattle.lines.proofs.Lines.{factors-pieces}
+use Rattle.lines.proofs.Lines.{factorAt, factors-pieces}
 use Rattle.lines.proofs.factors_text.Statement.{statement}
 use Rattle.lines.proofs.factors_text.Tie as tie
 
 abbrev Inv-loop : tie.InvT-loop
-Inv-loop room₀ at n constants masks next₀ i₀ room next i = (i ≤ length masks) × Wrote room₀ at (pieces (λ k. factorText n (factor (getD constants k 0) (getD masks k 0))) i) room next
+Inv-loop room₀ at n constants masks next₀ i₀ room next i = (i ≤ length masks) × Wrote room₀ at (pieces (factorAt n constants masks) i) room next
 
 abbrev μ-loop : tie.MeasureT-loop
 μ-loop room₀ at n constants masks next₀ i₀ room next i = length masks - i
@@ -38,7 +36,7 @@ factor-text-requires c κs =
     let l = c .before .before .before .before .loop in
     let s = c .before .before .before .before .before .before .before .before in
     let a = s .args in
-    (s .pre .0, room-piece (λ k. factorText (a .n) (factor (getD (a .constants .now) k 0) (getD (a .masks .now) k 0))) (l .i) (length (a .masks .now)) (factors-pieces (a .n) (a .constants .now) (a .masks .now) (s .pre .1 .0)) (s .pre .1 .1) (omega arith) (l .inv .1))
+    (s .pre .0, room-piece (factorAt (a .n) (a .constants .now) (a .masks .now)) (l .i) (length (a .masks .now)) (factors-pieces (a .n) (a .constants .now) (a .masks .now) (s .pre .1 .0)) (s .pre .1 .1) (omega arith) (l .inv .1))
 
 add-i : tie.Need-add-i Inv-loop μ-loop
 add-i c = search needs
@@ -50,7 +48,7 @@ loop-again : tie.Need-loop-again Inv-loop μ-loop
 loop-again c =
     let l = c .before .before .before .before .before .before .before .loop in
     let a = c .before .before .before .before .before .before .before .before .before .before .before .args in
-    (omega arith, wrote-piece (λ k. factorText (a .n) (factor (getD (a .constants .now) k 0) (getD (a .masks .now) k 0))) (l .i) (l .inv .1) (c .before .before .factor-text .ensures))
+    (omega arith, wrote-piece (factorAt (a .n) (a .constants .now) (a .masks .now)) (l .i) (l .inv .1) (c .before .before .factor-text .ensures))
 
 same-length : tie.Need-same-length Inv-loop μ-loop
 same-length c = wrote-length (c .before .loop .inv .1)
@@ -60,7 +58,7 @@ returns c =
     let l = c .before .loop in
     let s = c .before .before .before .before .before in
     let a = s .args in
-    wrote-pieces (λ k. factorText (a .n) (factor (getD (a .constants .now) k 0) (getD (a .masks .now) k 0))) (l .i) (length (a .masks .now)) (factors-pieces (a .n) (a .constants .now) (a .masks .now) (s .pre .1 .0)) (omega arith) (l .inv .1)
+    wrote-pieces (factorAt (a .n) (a .constants .now) (a .masks .now)) (l .i) (length (a .masks .now)) (factors-pieces (a .n) (a .constants .now) (a .masks .now) (s .pre .1 .0)) (omega arith) (l .inv .1)
 
 pub factors-text-spec : {M : Type 1} → statement M
 factors-text-spec =

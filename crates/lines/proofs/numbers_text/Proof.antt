@@ -2,8 +2,10 @@
 use mathlib.Core.Path.{sym}
 use native.Mathlib.Omega.{arith}
 use borrow.Author.Needs.{needs}
+use Rattle.text.specs.Pieces.{spaced}
 use Rattle.text.proofs.Writing.{room-same, wrote-same}
-use Rattle.lines.proofs.Lines.{numbers-none, numbers-some}
+use Rattle.lines.specs.Words.{noneWord}
+use Rattle.lines.proofs.Lines.{list-none, list-some}
 use Rattle.lines.proofs.numbers_text.Statement.{statement}
 use Rattle.lines.proofs.numbers_text.Tie as tie
 
@@ -13,7 +15,7 @@ slice-aggregate-write-word c = search needs
 write-word-requires : tie.Need-write-word-requires
 write-word-requires c κs =
     let s = c .before .before .before .before .before in
-    room-same (sym (numbers-none (s .args .numbers .now) (omega arith))) (s .pre)
+    room-same (sym (list-none noneWord spaced (s .args .numbers .now) (omega arith))) (s .pre)
 
 same-length : tie.Need-same-length
 same-length c = search needs
@@ -21,12 +23,12 @@ same-length c = search needs
 returns : tie.Need-returns
 returns c =
     let a = c .before .before .before .before .before .before .before .before .args in
-    wrote-same (numbers-none (a .numbers .now) (omega arith)) (c .before .before .write-word .ensures)
+    wrote-same (list-none noneWord spaced (a .numbers .now) (omega arith)) (c .before .before .write-word .ensures)
 
 write-numbers-requires : tie.Need-write-numbers-requires
 write-numbers-requires c κs =
     let s = c .before .before .before .before in
-    room-same (sym (numbers-some (s .args .numbers .now) (c .before .if1 .left))) (s .pre)
+    room-same (sym (list-some noneWord spaced (s .args .numbers .now) (c .before .if1 .left))) (s .pre)
 
 same-length-2 : tie.Need-same-length-2
 same-length-2 c = search needs
@@ -34,7 +36,7 @@ same-length-2 c = search needs
 returns-2 : tie.Need-returns-2
 returns-2 c =
     let a = c .before .before .before .before .before .before .before .args in
-    wrote-same (numbers-some (a .numbers .now) (c .before .before .before .before .if1 .left)) (c .before .before .write-numbers .ensures)
+    wrote-same (list-some noneWord spaced (a .numbers .now) (c .before .before .before .before .if1 .left)) (c .before .before .write-numbers .ensures)
 
 pub numbers-text-spec : {M : Type 1} → statement M
 numbers-text-spec =

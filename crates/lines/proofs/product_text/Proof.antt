@@ -1,11 +1,13 @@
 -- `lines::product_text` meets its contract: `1` for no factor, else the factors. Assumes nothing.
 use mathlib.Core.Path.{sym, _∙_}
-use mathlib.Core.List.{zipWith}
+use mathlib.Core.List.{zipWith, flatMap}
 use native.Mathlib.Omega.{arith}
 use borrow.Author.Needs.{needs}
 use Rattle.product.specs.Product.{factor}
 use Rattle.text.proofs.Writing.{room-same, wrote-same}
-use Rattle.lines.proofs.Lines.{factors-none, factors-some, zip-length}
+use Rattle.lines.specs.Words.{oneWord}
+use Rattle.lines.specs.Lines.{factorText}
+use Rattle.lines.proofs.Lines.{list-none, list-some, zip-length}
 use Rattle.lines.proofs.product_text.Statement.{statement}
 use Rattle.lines.proofs.product_text.Tie as tie
 
@@ -16,7 +18,7 @@ write-word-requires : tie.Need-write-word-requires
 write-word-requires c κs =
     let s = c .before .before .before .before .before .before in
     let a = s .args in
-    room-same (sym (factors-none (a .n) (zipWith factor (a .constants .now) (a .masks .now)) (zip-length (a .constants .now) (a .masks .now) (s .pre .1 .0) ∙ omega arith))) (s .pre .1 .1)
+    room-same (sym (list-none oneWord (flatMap (factorText (a .n))) (zipWith factor (a .constants .now) (a .masks .now)) (zip-length (a .constants .now) (a .masks .now) (s .pre .1 .0) ∙ omega arith))) (s .pre .1 .1)
 
 same-length : tie.Need-same-length
 same-length c = search needs
@@ -25,13 +27,13 @@ returns : tie.Need-returns
 returns c =
     let s = c .before .before .before .before .before .before .before .before .before in
     let a = s .args in
-    wrote-same (factors-none (a .n) (zipWith factor (a .constants .now) (a .masks .now)) (zip-length (a .constants .now) (a .masks .now) (s .pre .1 .0) ∙ omega arith)) (c .before .before .write-word .ensures)
+    wrote-same (list-none oneWord (flatMap (factorText (a .n))) (zipWith factor (a .constants .now) (a .masks .now)) (zip-length (a .constants .now) (a .masks .now) (s .pre .1 .0) ∙ omega arith)) (c .before .before .write-word .ensures)
 
 factors-text-requires : tie.Need-factors-text-requires
 factors-text-requires c κs =
     let s = c .before .before .before .before .before in
     let a = s .args in
-    (s .pre .0, (s .pre .1 .0, room-same (sym (factors-some (a .n) (zipWith factor (a .constants .now) (a .masks .now)) (λ e. c .before .if1 .left (sym (zip-length (a .constants .now) (a .masks .now) (s .pre .1 .0)) ∙ e)))) (s .pre .1 .1)))
+    (s .pre .0, (s .pre .1 .0, room-same (sym (list-some oneWord (flatMap (factorText (a .n))) (zipWith factor (a .constants .now) (a .masks .now)) (λ e. c .before .if1 .left (sym (zip-length (a .constants .now) (a .masks .now) (s .pre .1 .0)) ∙ e)))) (s .pre .1 .1)))
 
 same-length-2 : tie.Need-same-length-2
 same-length-2 c = search needs
@@ -40,7 +42,7 @@ returns-2 : tie.Need-returns-2
 returns-2 c =
     let s = c .before .before .before .before .before .before .before .before in
     let a = s .args in
-    wrote-same (factors-some (a .n) (zipWith factor (a .constants .now) (a .masks .now)) (λ e. c .before .before .before .before .if1 .left (sym (zip-length (a .constants .now) (a .masks .now) (s .pre .1 .0)) ∙ e))) (c .before .before .factors-text .ensures)
+    wrote-same (list-some oneWord (flatMap (factorText (a .n))) (zipWith factor (a .constants .now) (a .masks .now)) (λ e. c .before .before .before .before .if1 .left (sym (zip-length (a .constants .now) (a .masks .now) (s .pre .1 .0)) ∙ e))) (c .before .before .factors-text .ensures)
 
 pub product-text-spec : {M : Type 1} → statement M
 product-text-spec =
