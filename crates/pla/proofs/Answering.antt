@@ -3,7 +3,7 @@ use mathlib.Core.Path.{_≡_, refl, sym, ap, _∙_}
 use mathlib.Core.Bool.{Bool, true, false, not}
 use mathlib.Core.Logic.{_≢_, inl, inr}
 use mathlib.Core.List.{List, [], _∷_}
-use Prim.Native.Nat.{ℕ, _+_, _*_, _^_, _≤_, _<_}
+use Prim.Native.Nat.{ℕ, _^_, _≤_, _<_}
 use native.Mathlib.Decide.{ℕ-discrete}
 use native.Mathlib.Omega.{arith}
 use lib.Dec.{ltb}
@@ -17,6 +17,7 @@ use Rattle.table.specs.Refusal.{Test, firstFault, Numbered, Exact, roomFault}
 use Rattle.table.specs.Decision.{front, roomTest}
 use Rattle.table.proofs.Refusal.{numbered}
 use Rattle.table.proofs.Decide.{decide-exact, call-refused, call-short, call-accepted}
+use Rattle.stored.specs.Layout.{tableLength}
 use Rattle.stored.specs.Encoding.{encodeTable}
 use Rattle.pla_cubes.specs.Cubes.{Row}
 use Rattle.pla_cubes.specs.Flagging.{Flagged}
@@ -98,7 +99,7 @@ module _ (text : List ℕ) (output : ℕ) (r : Reading) (a : Agrees r (readText 
   unfolding storedTable
   same-table = ap (encodeTable (r .head .variables)) same-marks ∙ ap (λ (h : Head). encodeTable (h .variables) (marksOf (readText output text .head .kind) (readText output text .head .variables) (readText output text .rows))) (a .head)
 
-  pub same-table-length : length (tableFound (readText output text)) ≡ 5 + 3 * length (flagMarks (r .head .kind) (r .head .variables) (r .flags))
+  pub same-table-length : length (tableFound (readText output text)) ≡ tableLength (length (flagMarks (r .head .kind) (r .head .variables) (r .flags)))
   same-table-length = ap length (sym same-table) ∙ table-length (r .head .variables) (flagMarks (r .head .kind) (r .head .variables) (r .flags))
 
   -- The refusal at the end.
@@ -124,14 +125,14 @@ module _ (text : List ℕ) (output : ℕ) (r : Reading) (a : Agrees r (readText 
       (q ∙ ap (λ (l : ℕ). record { refusal = fault; line = l; length = 0 }) (a .line) ∙ k .0, k .1)
 
   pub room-refused : {p : PlaRead} (room : List ℕ) → r .fault ≡ 0 → 0 ≡ firstFault (endTests output (r .head))
-      → length room < 5 + 3 * length (flagMarks (r .head .kind) (r .head .variables) (r .flags)) → p ≡ record { refusal = roomFault; line = r .line; length = 0 }
+      → length room < tableLength (length (flagMarks (r .head .kind) (r .head .variables) (r .flags))) → p ≡ record { refusal = roomFault; line = r .line; length = 0 }
       → (p ≡ plaAnswer text output room) × (room ≡ plaAfter text output room)
   room-refused room z e h q =
       let k = pla-short text output room (sym (end-fault z e)) (omega (arith, same-table-length)) in
       (q ∙ ap (λ (l : ℕ). record { refusal = roomFault; line = l; length = 0 }) (a .line) ∙ k .0, k .1)
 
   pub text-accepted : (room next : List ℕ) (long : ℕ) → r .fault ≡ 0 → 0 ≡ firstFault (endTests output (r .head))
-      → long ≡ 5 + 3 * length (flagMarks (r .head .kind) (r .head .variables) (r .flags)) → long ≤ length room
+      → long ≡ tableLength (length (flagMarks (r .head .kind) (r .head .variables) (r .flags))) → long ≤ length room
       → next ≡ front (encodeTable (r .head .variables) (flagMarks (r .head .kind) (r .head .variables) (r .flags))) room
       → (_≡_ {A = PlaRead} (record { refusal = 0; line = 0; length = long }) (plaAnswer text output room)) × (next ≡ plaAfter text output room)
   text-accepted room next long z e l h q =

@@ -2,19 +2,22 @@
 // specs/, the laws about them in proofs/. Read next: specs/Table.antt.
 ghost use mathlib.Core.Path.{_≡_};
 ghost use mathlib.Core.Bool.{not, _&&_};
-ghost use mathlib.Core.List.{List, _++_};
-ghost use Prim.Native.Nat.{ℕ, _+_, _*_, _/_, _%_, _≤_};
+ghost use Prim.Native.Nat.{ℕ, _+_, _≤_};
 ghost use lib.Dec.{eqb};
-ghost use lib.ListN.{length, set};
+ghost use lib.ListN.{length};
+ghost use lib.Seq.{sets};
 ghost use Rattle.gf2.specs.Limits.{maxVariables};
 ghost use Rattle.table.specs.Refusal.{firstFault};
 ghost use Rattle.table.specs.Decision.{front};
+ghost use Rattle.stored.specs.Layout.{firstPoint, tableLength};
 ghost use Rattle.stored.specs.Encoding.{encodeMarks, encodeTable};
 ghost use Rattle.pla_cubes.specs.Meaning.{freeBy};
 ghost use Rattle.pla.specs.Table.{flagMarks, markOf};
 ghost use Rattle.pla.specs.Answer.{endTests, plaAfter, plaAnswer};
 use pla_cubes::Flags;
 use pla_lines::Head;
+use records::RECORD_LENGTH;
+use stored::FIRST_POINT;
 
 // The refusal numbers at the end of a text, as in specs/.
 pub const HEAD_FAULT: u8 = 38;
@@ -22,11 +25,6 @@ pub const HEAD_FAULT: u8 = 38;
 pub const COUNT_FAULT: u8 = 39;
 
 pub const OUTPUT_FAULT: u8 = 40;
-
-// Where the first record of a point begins, and how long such a record and the end record are, their kind included.
-const FIRST_POINT: usize = 2;
-
-const RECORD_LENGTH: usize = 3;
 
 // What reading gives: the refusal or 0, the line at fault or 0, and how many bytes are written.
 #[repr(C)]
@@ -121,32 +119,18 @@ fn count_marks(kind: u8, n: usize, flags: Flags) -> usize
     count
 }
 
-// A record of a kind and a number of two bytes, written at a place.
-fn write_record(room: &mut [u8], at: usize, kind: u8, word: u16)
-    requires { ⌜ at + 3 ≤ length (now room) ⌝ }
-    ensures { λ _. ⌜ now (room .exit) ≡ set (set (set (now (room .entry)) at kind) (at + 1) (word % 256)) (at + 2) (word / 256) ⌝ }
-{
-    room[at] = kind;
-    room[at + 1] = (word % 256) as u8;
-    room[at + 2] = (word / 256) as u8;
-}
-
-// The record of a point's mark, if it has one, written at a place behind what is written already; the place behind it.
+// The record of a point's mark, if it has one, written at a place; the place behind it.
 fn write_mark(room: &mut [u8], at: usize, on: bool, free: bool, point: u16) -> usize
-    requires { ⌜ at + 3 * length (markOf on free point) ≤ length (now room) ⌝ }
-    ensures { λ r. ⌜ r ≡ at + 3 * length (markOf on free point) ⌝ }
-    ensures { λ r.
-        ⌜
-        ((done lent : List ℕ) → now (room .entry) ≡ front done lent → length done ≡ at → at + 3 * length (markOf on free point) ≤ length lent
-        → now (room .exit) ≡ front (done ++ encodeMarks (markOf on free point)) lent)
-        ⌝ }
+    requires { ⌜ at + length (encodeMarks (markOf on free point)) ≤ length (now room) ⌝ }
+    ensures { λ r. ⌜ r ≡ at + length (encodeMarks (markOf on free point)) ⌝ }
+    ensures { λ r. ⌜ now (room .exit) ≡ sets (now (room .entry)) at (encodeMarks (markOf on free point)) ⌝ }
 {
     if on {
-        write_record(room, at, records::ON_KIND, point);
+        records::put_record(room, at, records::ON_KIND, point);
         return at + RECORD_LENGTH;
     }
     if free {
-        write_record(room, at, records::FREE_KIND, point);
+        records::put_record(room, at, records::FREE_KIND, point);
         return at + RECORD_LENGTH;
     }
     at
@@ -155,13 +139,9 @@ fn write_mark(room: &mut [u8], at: usize, on: bool, free: bool, point: u16) -> u
 // The records of the marks of n variables, written behind the first record.
 fn write_marks(kind: u8, n: usize, flags: Flags, room: &mut [u8]) -> usize
     requires { ⌜ n ≤ maxVariables ⌝ }
-    requires { ⌜ 2 + 3 * length (flagMarks kind n flags) ≤ length (now room) ⌝ }
-    ensures { λ r. ⌜ r ≡ 2 + 3 * length (flagMarks kind n flags) ⌝ }
-    ensures { λ r.
-        ⌜
-        ((done lent : List ℕ) → now (room .entry) ≡ front done lent → length done ≡ 2 → length (now (room .entry)) ≡ length lent
-        → now (room .exit) ≡ front (done ++ encodeMarks (flagMarks kind n flags)) lent)
-        ⌝ }
+    requires { ⌜ firstPoint + length (encodeMarks (flagMarks kind n flags)) ≤ length (now room) ⌝ }
+    ensures { λ r. ⌜ r ≡ firstPoint + length (encodeMarks (flagMarks kind n flags)) ⌝ }
+    ensures { λ r. ⌜ now (room .exit) ≡ sets (now (room .entry)) firstPoint (encodeMarks (flagMarks kind n flags)) ⌝ }
 {
     let size = table::point_count(n);
     let mut at = FIRST_POINT;
@@ -184,13 +164,13 @@ fn write_marks(kind: u8, n: usize, flags: Flags, room: &mut [u8]) -> usize
 fn write_table(kind: u8, n: usize, flags: Flags, count: usize, room: &mut [u8])
     requires { ⌜ n ≤ maxVariables ⌝ }
     requires { ⌜ count ≡ length (flagMarks kind n flags) ⌝ }
-    requires { ⌜ 5 + 3 * count ≤ length (now room) ⌝ }
+    requires { ⌜ tableLength count ≤ length (now room) ⌝ }
     ensures { λ _. ⌜ now (room .exit) ≡ front (encodeTable n (flagMarks kind n flags)) (now (room .entry)) ⌝ }
 {
     room[0] = records::VARIABLES_KIND;
     room[1] = n as u8;
     let at = write_marks(kind, n, flags, &mut *room);
-    write_record(&mut *room, at, records::END_KIND, count as u16);
+    records::put_end(&mut *room, at, count as u16);
 }
 
 // The chosen output, counted from 1, of a truth table in Berkeley PLA as a stored table at the front of the room. Refused are a line at fault with its

@@ -64,6 +64,14 @@ highByte word = word / 256
 abbrev pub Bytes : List ℕ → Type 0
 Bytes bytes = (byte : ℕ) → Mem byte bytes → byte < 256
 
+-- A record of a kind and a number of two bytes.
+abbrev pub encodeRecord : ℕ → ℕ → List ℕ
+encodeRecord kind word = kind ∷ lowByte word ∷ highByte word ∷ []
+
+-- Its length: one byte of kind, two of the number.
+abbrev pub recordLength : ℕ
+recordLength = 3
+
 -- The end record with the number of points of a table, or of products of a form.
 abbrev pub encodeEnd : ℕ → List ℕ
-encodeEnd count = endKind ∷ lowByte count ∷ highByte count ∷ []
+encodeEnd count = encodeRecord endKind count

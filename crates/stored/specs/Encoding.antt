@@ -6,7 +6,7 @@ use mathlib.Core.List.{List, [], _∷_, _++_}
 use Prim.Native.Nat.{ℕ, _≤_, _<_}
 use lib.ListN.{length}
 use Rattle.gf2.specs.Finite.{Mem}
-use Rattle.records.specs.Kinds.{variablesKind, onKind, freeKind, lowByte, highByte, encodeEnd}
+use Rattle.records.specs.Kinds.{variablesKind, onKind, freeKind, encodeRecord, encodeEnd}
 use Rattle.table.specs.Flags.{maxPoints}
 use Rattle.stored.specs.Marks.{Mark}
 
@@ -18,7 +18,7 @@ markKind false = freeKind
 -- The records of the marks: kind, then the point, low byte first.
 unfoldable pub encodeMarks : List Mark → List ℕ
 encodeMarks [] = []
-encodeMarks (m ∷ rest) = markKind (m .isOn) ∷ lowByte (m .point) ∷ highByte (m .point) ∷ encodeMarks rest
+encodeMarks (m ∷ rest) = encodeRecord (markKind (m .isOn)) (m .point) ++ encodeMarks rest
 
 -- A stored table: 4E and n, a record for each mark, 45 and their number.
 unfoldable pub encodeTable : ℕ → List Mark → List ℕ

@@ -6,7 +6,7 @@ use Prim.Native.Nat.{ℕ, zero, suc, _+_, _*_}
 use lib.Dec.{eqb}
 use Rattle.records.specs.declared.Kind.{Kind}
 use Rattle.records.specs.declared.Kind.the-variants.{Variables, Product, Factor, End, On, Free, Unknown}
-use Rattle.records.specs.Kinds.{kindOf, bodyOf}
+use Rattle.records.specs.Kinds.{kindOf, bodyOf, recordLength}
 use Rattle.table.specs.Flags.{maxPoints}
 use Rattle.records.specs.declared.Walk.{Walk}
 use Rattle.records.specs.declared.Walk.the-variants.{WrongKind, Missing, After}
@@ -14,9 +14,17 @@ use Rattle.records.specs.declared.Step.{Step}
 use Rattle.records.specs.declared.Step.the-variants.{Stop}
 use Rattle.records.specs.Walks.{bodyStep, endStep, goOn}
 
--- The bytes of the longest stored table: 4E and n, a record of 3 bytes for each point, 45 and their number (document 01, "The written form").
+-- Where the records of points begin: behind 4E and n.
+abbrev pub firstPoint : ℕ
+firstPoint = 2
+
+-- The number of bytes of a stored table: 4E and n, a record for each point, 45 and their number (document 01, "The written form").
+abbrev pub tableLength : ℕ → ℕ
+tableLength count = firstPoint + recordLength * count + recordLength
+
+-- The bytes of the longest stored table, with a record for each point of the most variables.
 abbrev pub longestTable : ℕ
-longestTable = 2 + 3 * maxPoints + 3
+longestTable = tableLength maxPoints
 
 -- The first record gives n.
 abbrev pub firstStep : Kind → List ℕ → Step

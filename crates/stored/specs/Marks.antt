@@ -7,6 +7,7 @@ use lib.ListN.{getD, drop}
 use Rattle.records.specs.declared.Kind.{Kind}
 use Rattle.records.specs.declared.Kind.the-variants.{Variables, Product, Factor, End, On, Free, Unknown}
 use Rattle.records.specs.Kinds.{kindOf, wordOf}
+use Rattle.stored.specs.Layout.{firstPoint}
 
 -- A point with its mark: on, or else free.
 pub record Mark : Type 0 where
@@ -44,7 +45,7 @@ storedVariables bytes = getD bytes 1 0
 
 -- The marks of a stored table stand after its first record.
 abbrev pub marks : List ℕ → List Mark
-marks bytes = recordMarks (drop 2 bytes)
+marks bytes = recordMarks (drop firstPoint bytes)
 
 -- The points of the marks that are on, or of those that are free.
 unfoldable pub pointsOf : Bool → List Mark → List ℕ

@@ -1,11 +1,11 @@
--- `records::put_end` meets its contract: the kind, then the number behind it. Assumes nothing.
+-- `records::put_record` meets its contract: the kind, then the number behind it. Assumes nothing.
 use mathlib.Core.Path.{_∙_, ap}
 use native.Mathlib.Numerals.{towards-suc}
 use native.Mathlib.Omega.{arith}
 use borrow.Author.Needs.{needs}
 use lib.ListN.{length, length-set}
-use Rattle.records.proofs.put_end.Statement.{statement}
-use Rattle.records.proofs.put_end.Tie as tie
+use Rattle.records.proofs.put_record.Statement.{statement}
+use Rattle.records.proofs.put_record.Tie as tie
 
 slice-write-room : tie.Need-slice-write-room
 slice-write-room c = search needs
@@ -22,6 +22,6 @@ same-length c = ap length (c .before .before .put-word .ensures) ∙ simp length
 returns : tie.Need-returns
 returns c = c .before .before .put-word .ensures ∙ simp towards-suc
 
-pub put-end-spec : {M : Type 1} → statement M
-put-end-spec =
+pub put-record-spec : {M : Type 1} → statement M
+put-record-spec =
     tie.close (tie.spec slice-write-room add-put-word put-word-requires same-length returns)
