@@ -1,5 +1,5 @@
 -- A stored table that is not refused is a table that is not refused: its points as one rising list give rising lists of on and of free
--- points with none in both (`stored-accepted`).
+-- points with none in both (`stored-accepted`). Read next: Rooms.
 use mathlib.Core.Path.{_≡_, refl}
 use mathlib.Core.Bool.{true, false}
 use mathlib.Core.Logic.{_≢_, inl, inr}

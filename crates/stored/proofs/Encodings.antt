@@ -18,7 +18,7 @@ use Rattle.stored.specs.Layout.{walked, longestTable}
 use Rattle.stored.specs.Marks.{Mark, recordMarks, marks, storedVariables}
 use Rattle.stored.specs.Encoding.{markKind, encodeMarks, encodeTable, Encoded}
 use Rattle.stored.specs.Stored.{LaidOut}
-use Rattle.stored.proofs.Laying.{pointKind, Laying, end, point, LaidAs, table, laid, walk-laid, laid-few, laid-marks, laid-as, marks-point, marks-end}
+use Rattle.stored.proofs.Laying.{pointKind, Laying, end, point, LaidAs, table, walk-laid, laid-few, laid-marks, laid-as, marks-point, marks-end}
 
 -- ---- what is written is read
 

@@ -16,14 +16,14 @@ use Rattle.table.specs.Flags.{maxPoints}
 use Rattle.records.specs.declared.Kind.{Kind}
 use Rattle.records.specs.declared.Kind.the-variants.{Variables, Product, Factor, End, On, Free, Unknown}
 use Rattle.records.specs.declared.Body.the-variants.{Length}
-use Rattle.records.specs.Kinds.{kindOf, wordOf, onKind}
+use Rattle.records.specs.Kinds.{kindOf, wordOf, onKind, recordLength}
 use Rattle.records.proofs.KindBytes.{kind-byte}
 use Rattle.records.specs.declared.Walk.{Walk}
 use Rattle.records.specs.declared.Walk.the-variants.{Laid, WrongKind, Missing, WrongVariables, WrongFactor, NotCanonical, WrongCount, After, TooMany}
 use Rattle.records.specs.declared.Step.the-variants.{Stop}
 use Rattle.records.specs.Walks.{bodyStep, afterEnd, goOn, isFault}
 use Rattle.records.proofs.Whole.{faulty}
-use Rattle.stored.specs.Layout.{firstStep, laterStep, recordStep, walkFrom, walked, longestTable}
+use Rattle.stored.specs.Layout.{firstStep, laterStep, recordStep, walkFrom, walked, firstPoint, tableLength, longestTable}
 use Rattle.stored.specs.Marks.{Mark, mark, noMark, recordMarks, marks, storedPoints}
 use Rattle.stored.specs.Stored.{LaidOut}
 
@@ -152,7 +152,7 @@ laying-few : {rest : List ℕ} {place count all : ℕ} → Laying rest place cou
 laying-few (end o q w a) e h = omega arith
 laying-few (point isOn o q r) e h = laying-few r (omega arith) (omega arith)
 
-pub laid-length : {bytes : List ℕ} {all : ℕ} → LaidAs bytes all → length bytes ≡ 5 + 3 * all
+pub laid-length : {bytes : List ℕ} {all : ℕ} → LaidAs bytes all → length bytes ≡ tableLength all
 laid-length (table q r) = omega (arith, laying-length r)
 
 pub laid-few : {bytes : List ℕ} {all : ℕ} → LaidAs bytes all → all ≤ maxPoints
@@ -200,7 +200,7 @@ laying-at (point {byte} {low} {high} {rest} isOn o q r) (suc i) h =
     rw (marks-point byte low high rest isOn q)
     (laying-at r i (omega (arith, ap length (marks-point byte low high rest isOn q))) ∙ mark-later 3 (byte ∷ low ∷ high ∷ rest) (3 * i) ∙ ap (markAt (byte ∷ low ∷ high ∷ rest)) more)
 
-pub laid-at : {bytes : List ℕ} {all : ℕ} → LaidAs bytes all → (i : ℕ) → i < length (marks bytes) → getD (marks bytes) i noMark ≡ markAt bytes (2 + 3 * i)
+pub laid-at : {bytes : List ℕ} {all : ℕ} → LaidAs bytes all → (i : ℕ) → i < length (marks bytes) → getD (marks bytes) i noMark ≡ markAt bytes (firstPoint + recordLength * i)
 laid-at (table {byte} {n} {rest} q r) i h = laying-at r i h ∙ mark-later 2 (byte ∷ n ∷ rest) (3 * i)
 
 -- ---- bytes that are laid out
@@ -232,15 +232,15 @@ too-long bytes h = go (isFault (walked bytes)) refl
     go false e = let a = laid-as bytes e in absurd (omega (arith, laid-length a, laid-few a))
 
 -- The bytes of a table that is laid out: how many, and what the records of points among them stand for.
-pub table-length : (bytes : List ℕ) → LaidOut bytes → length bytes ≡ 5 + 3 * length (marks bytes)
+pub table-length : (bytes : List ℕ) → LaidOut bytes → length bytes ≡ tableLength (length (marks bytes))
 table-length bytes h = laid-length (laid-as bytes h)
 
 -- A record of a point ends before the end record.
-pub record-inside : (bytes : List ℕ) → LaidOut bytes → (i : ℕ) → i < length (marks bytes) → 8 + 3 * i ≤ length bytes
+pub record-inside : (bytes : List ℕ) → LaidOut bytes → (i : ℕ) → i < length (marks bytes) → tableLength (suc i) ≤ length bytes
 record-inside bytes h i l = omega (arith, table-length bytes h)
 
-pub table-mark : (bytes : List ℕ) → LaidOut bytes → (i : ℕ) → i < length (marks bytes) → getD (marks bytes) i noMark ≡ markAt bytes (2 + 3 * i)
+pub table-mark : (bytes : List ℕ) → LaidOut bytes → (i : ℕ) → i < length (marks bytes) → getD (marks bytes) i noMark ≡ markAt bytes (firstPoint + recordLength * i)
 table-mark bytes h = laid-at (laid-as bytes h)
 
-pub table-point : (bytes : List ℕ) → LaidOut bytes → (i : ℕ) → i < length (marks bytes) → getD (storedPoints bytes) i 0 ≡ markAt bytes (2 + 3 * i) .point
+pub table-point : (bytes : List ℕ) → LaidOut bytes → (i : ℕ) → i < length (marks bytes) → getD (storedPoints bytes) i 0 ≡ markAt bytes (firstPoint + recordLength * i) .point
 table-point bytes h i l = List·getD-map (λ m. m .point) (marks bytes) i noMark ∙ ap (λ (m : Mark). m .point) (table-mark bytes h i l)

@@ -4,13 +4,15 @@ use mathlib.Core.Path.{_≡_, refl, sym, ap, _∙_}
 use mathlib.Core.Bool.{Bool, true, false, cond, Bool·beq}
 use mathlib.Core.Logic.{inl, inr}
 use mathlib.Core.List.{List, [], _∷_, _++_, map, append-nil}
-use Prim.Native.Nat.{ℕ, suc, _≤_, _<_, _+_}
+use Prim.Native.Nat.{ℕ, _≤_, _<_, _+_}
 use native.Mathlib.Numerals.{add-one}
 use native.Mathlib.Omega.{arith}
 use lib.ListN.{length, take, drop, getD, set, length-set, length-append, take-append-drop}
-use lib.Seq.{take-all, take-suc, drop-cons, set-at, append-snoc}
+use lib.Seq.{take-all, take-suc}
 use Rattle.gf2.specs.Finite.{Mem, Rising}
 use Rattle.gf2.proofs.Logic.{cond-cases}
+use Rattle.table.specs.Decision.{front}
+use Rattle.table.proofs.Fill.{fill-push}
 use Rattle.stored.specs.Marks.{Mark, noMark, pointsOf}
 
 -- ---- members and order
@@ -95,23 +97,17 @@ module _ (isOn : Bool) (ms : List Mark) (i : ℕ) (h : i < length ms) where
 pub record Written (isOn : Bool) (ms : List Mark) (lent : List ℕ) (i place : ℕ) (room : List ℕ) : Type 0 where
   pub count : place ≡ length (pointsOf isOn (take i ms))
   pub long : length room ≡ length lent
-  pub front : room ≡ pointsOf isOn (take i ms) ++ drop place lent
+  pub filled : room ≡ front (pointsOf isOn (take i ms)) lent
 
 pub none-written : (isOn : Bool) (ms : List Mark) (lent : List ℕ) → Written isOn ms lent 0 0 lent
 unfolding pointsOf
-none-written isOn ms lent = record { count = refl; long = refl; front = refl }
+none-written isOn ms lent = record { count = refl; long = refl; filled = refl }
 
 pub all-written : {isOn : Bool} {ms : List Mark} {lent : List ℕ} {i place : ℕ} {room : List ℕ} → length ms ≤ i → Written isOn ms lent i place room
-    → (place ≡ length (pointsOf isOn ms)) × (room ≡ pointsOf isOn ms ++ drop (length (pointsOf isOn ms)) lent)
+    → (place ≡ length (pointsOf isOn ms)) × (room ≡ front (pointsOf isOn ms) lent)
 all-written {isOn} {ms} {lent} {i} {place} {room} h w =
     let all : take i ms ≡ ms = take-all i ms h in
-    let count : place ≡ length (pointsOf isOn ms) = rw all at (w .count) in
-    (count, w .front ∙ (rw (all, count)))
-
--- A point stored after those that stand at the front.
-put-next : (front lent : List ℕ) (place point : ℕ) → length front ≡ place → place < length lent → set (front ++ drop place lent) place point ≡ (front ++ (point ∷ [])) ++ drop (place + 1) lent
-put-next front lent place point e h =
-    rw (add-one, drop-cons lent place 0) (set-at front (getD lent place 0) (drop (suc place) lent) point place e ∙ sym (append-snoc front point (drop (suc place) lent)))
+    (rw all at (w .count), rw all at (w .filled))
 
 -- The next mark: its point is stored at the place, which lies in the room, or the room stays as it is.
 module _ (isOn : Bool) (ms : List Mark) (lent : List ℕ) (i place : ℕ) (room : List ℕ) (h : i < length ms) (w : Written isOn ms lent i place room) where
@@ -122,13 +118,12 @@ module _ (isOn : Bool) (ms : List Mark) (lent : List ℕ) (i place : ℕ) (room 
   written-more l e = record {
     count = omega (arith, w .count, count-more isOn ms i h e);
     long = length-set room place (getD ms i noMark .point) ∙ w .long;
-    front =
-        ap (λ (r : List ℕ). set r place (getD ms i noMark .point)) (w .front)
-        ∙ put-next (pointsOf isOn (take i ms)) lent place (getD ms i noMark .point) (sym (w .count)) (room-left l e)
-        ∙ ap (λ (p : List ℕ). p ++ drop (place + 1) lent) (sym (points-more isOn ms i h e));
+    filled =
+        rw (w .filled, w .count) (fill-push (pointsOf isOn (take i ms)) lent (getD ms i noMark .point) (omega (arith, w .count, room-left l e)))
+        ∙ ap (λ (p : List ℕ). front p lent) (sym (points-more isOn ms i h e));
   }
 
   pub written-same : Bool·beq isOn (getD ms i noMark .isOn) ≡ false → Written isOn ms lent (i + 1) place room
   written-same e =
       let same = points-same isOn ms i h e in
-      record { count = w .count ∙ ap length (sym same); long = w .long; front = w .front ∙ ap (λ (p : List ℕ). p ++ drop place lent) (sym same) }
+      record { count = w .count ∙ ap length (sym same); long = w .long; filled = w .filled ∙ ap (λ (p : List ℕ). front p lent) (sym same) }

@@ -1,4 +1,4 @@
--- Laws of specs.Layout: what a whole record says of the bytes that are left.
+-- Laws of specs.Layout: what a whole record says of the bytes that are left. Read next: Laying.
 use mathlib.Core.Path.{_≡_, refl, ap, _∙_}
 use mathlib.Core.Bool.{Bool, true, false, cond}
 use mathlib.Core.List.{List, [], _∷_}
@@ -13,36 +13,32 @@ use Rattle.records.specs.declared.Kind.{Kind}
 use Rattle.records.specs.declared.Kind.the-variants.{Variables, Product, Factor, End, On, Free, Unknown}
 use Rattle.records.specs.Kinds.{kindOf, bodyOf}
 use Rattle.records.specs.declared.Walk.{Walk}
-use Rattle.records.specs.declared.Walk.the-variants.{WrongKind, Missing, After}
+use Rattle.records.specs.declared.Walk.the-variants.{Missing, After}
 use Rattle.records.specs.declared.Step.{Step}
 use Rattle.records.specs.declared.Step.the-variants.{Whole, Stop}
 use Rattle.records.specs.Walks.{bodyStep, endStep}
-use Rattle.records.proofs.Whole.{body-whole}
+use Rattle.records.proofs.Whole.{not-whole, body-whole}
 use Rattle.stored.specs.Layout.{firstStep, laterStep, recordStep, walkFrom, walked, longestTable}
-
--- A whole record is not the end of the walk.
-not-whole : {A : Type 0} (s : Step) {w : Walk} {l : ℕ} → s ≡ Stop w → s ≡ Whole l → A
-not-whole s p q = let z : _≡_ {A = ℕ} 0 1 = cc in absurd (omega arith)
 
 -- A later record that is whole leaves its body behind.
 later-whole : (k : Kind) (count place : ℕ) (rest : List ℕ) (l : ℕ) → laterStep k count place rest ≡ Whole l → l ≤ length rest
-later-whole Variables count place rest l e = not-whole (Stop (WrongKind place)) refl e
-later-whole Product count place rest l e = not-whole (Stop (WrongKind place)) refl e
-later-whole Factor count place rest l e = not-whole (Stop (WrongKind place)) refl e
+later-whole Variables count place rest l e = not-whole e
+later-whole Product count place rest l e = not-whole e
+later-whole Factor count place rest l e = not-whole e
 later-whole On count place rest l e = body-whole (bodyOf On) place rest l e .1
 later-whole Free count place rest l e = body-whole (bodyOf Free) place rest l e .1
-later-whole Unknown count place rest l e = not-whole (Stop (WrongKind place)) refl e
+later-whole Unknown count place rest l e = not-whole e
 later-whole End count place rest l e = ended (bodyStep (bodyOf End) place rest) e
   where
     ended : (s : Step) → endStep s count place rest ≡ Whole l → l ≤ length rest
-    ended (Whole m) q = not-whole (endStep (Whole m) count place rest) refl q
-    ended (Stop w) q = not-whole (Stop w) refl q
+    ended (Whole m) q = not-whole q
+    ended (Stop w) q = not-whole q
 
 pub record-whole : (byte count place : ℕ) (rest : List ℕ) (l : ℕ) → recordStep byte count place rest ≡ Whole l → l ≤ length rest
 record-whole byte count place rest l = go (eqb place longestTable)
   where
     go : (t : Bool) → cond t (Stop (After place)) (laterStep (kindOf byte) count place rest) ≡ Whole l → l ≤ length rest
-    go true e = not-whole (Stop (After place)) refl e
+    go true e = not-whole e
     go false e = later-whole (kindOf byte) count place rest l e
 
 -- A body that is there is passed.
@@ -79,12 +75,12 @@ walk-none (b ∷ rest) h = absurd (omega arith)
 
 pub first-whole : (k : Kind) (rest : List ℕ) (l : ℕ) → firstStep k rest ≡ Whole l → l ≤ length rest
 first-whole Variables rest l e = body-whole (bodyOf Variables) 0 rest l e .1
-first-whole Product rest l e = not-whole (Stop (WrongKind 0)) refl e
-first-whole Factor rest l e = not-whole (Stop (WrongKind 0)) refl e
-first-whole End rest l e = not-whole (Stop (WrongKind 0)) refl e
-first-whole On rest l e = not-whole (Stop (WrongKind 0)) refl e
-first-whole Free rest l e = not-whole (Stop (WrongKind 0)) refl e
-first-whole Unknown rest l e = not-whole (Stop (WrongKind 0)) refl e
+first-whole Product rest l e = not-whole e
+first-whole Factor rest l e = not-whole e
+first-whole End rest l e = not-whole e
+first-whole On rest l e = not-whole e
+first-whole Free rest l e = not-whole e
+first-whole Unknown rest l e = not-whole e
 
 pub first-ends : (s : List ℕ) (w : Walk) → 0 < length s → firstStep (kindOf (getD s 0 0)) (drop 1 s) ≡ Stop w → walked s ≡ w
 unfolding walked

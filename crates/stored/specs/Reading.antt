@@ -1,4 +1,5 @@
 -- The answer of reading a stored table into two lent rooms, and what stands in the rooms afterwards (document 01, "Refusal numbers").
+-- Read next: crate `space`, which completes the table.
 use mathlib.Core.Bool.{_||_}
 use mathlib.Core.List.{List, [], _∷_, _++_}
 use Prim.Native.Nat.{ℕ}

@@ -1,15 +1,16 @@
 -- `stored::is_marked` meets its contract: the record stands inside the bytes, and its kind says whether it is on. Assumes nothing.
 use mathlib.Core.Path.{sym, ap}
 use mathlib.Core.Bool.{Bool·beq}
-use Prim.Native.Nat.{_≤_, _+_, _*_}
+use Prim.Native.Nat.{suc, _≤_}
 use native.Mathlib.Omega.{arith}
 use lib.ListN.{length}
+use Rattle.stored.specs.Layout.{tableLength}
 use Rattle.stored.specs.Marks.{Mark}
 use Rattle.stored.proofs.Laying.{record-inside, table-mark}
 use Rattle.stored.proofs.is_marked.Statement.{statement}
 use Rattle.stored.proofs.is_marked.Tie as tie
 
-inside : (c : tie.Start) → 8 + 3 * c .args .i ≤ length (c .args .bytes .now)
+inside : (c : tie.Start) → tableLength (suc (c .args .i)) ≤ length (c .args .bytes .now)
 inside c = record-inside (c .args .bytes .now) (c .pre .0) (c .args .i) (c .pre .1)
 
 mul-place : tie.Need-mul-place

@@ -1,14 +1,15 @@
 -- `stored::point_at` meets its contract: the record stands inside the bytes, and its two bytes are the point. Assumes nothing.
 use mathlib.Core.Path.{sym, _∙_}
-use Prim.Native.Nat.{_≤_, _+_, _*_}
+use Prim.Native.Nat.{suc, _≤_}
 use native.Mathlib.Omega.{arith}
 use borrow.Author.Needs.{needs}
 use lib.ListN.{length}
+use Rattle.stored.specs.Layout.{tableLength}
 use Rattle.stored.proofs.Laying.{record-inside, table-point}
 use Rattle.stored.proofs.point_at.Statement.{statement}
 use Rattle.stored.proofs.point_at.Tie as tie
 
-inside : (c : tie.Start) → 8 + 3 * c .args .i ≤ length (c .args .bytes .now)
+inside : (c : tie.Start) → tableLength (suc (c .args .i)) ≤ length (c .args .bytes .now)
 inside c = record-inside (c .args .bytes .now) (c .pre .0) (c .args .i) (c .pre .1)
 
 mul-place : tie.Need-mul-place
