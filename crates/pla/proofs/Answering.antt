@@ -1,4 +1,4 @@
--- Laws of specs.Answer: the refusals in their order, and what the call answers by what it found.
+-- Laws of specs.Answer: the refusals in their order, and what the call answers by what it found. Read next: Storing.
 use mathlib.Core.Path.{_≡_, refl, sym, ap, _∙_}
 use mathlib.Core.Bool.{Bool, true, false, not}
 use mathlib.Core.Logic.{_≢_, inl, inr}

@@ -1,6 +1,6 @@
 -- Laws of specs.Table: the marks of one point more, and how many they are; their records stored one behind the other. Read next: Answering.
 use mathlib.Core.Path.{_≡_, refl, sym, ap, _∙_}
-use mathlib.Core.Bool.{Bool, true, false}
+use mathlib.Core.Bool.{Bool, true, false, cond, _||_}
 use mathlib.Core.List.{List, [], _∷_, _++_}
 use Prim.Native.Nat.{ℕ, zero, suc, _+_, _*_, _≤_, _<_}
 use native.Mathlib.Numerals.{add-one}
@@ -9,33 +9,21 @@ use native.Mathlib.Omega.{arith}
 use lib.ListN.{length, set, length-append}
 use lib.Seq.{sets}
 use Rattle.table.specs.Decision.{front}
-use Rattle.records.specs.Kinds.{variablesKind, onKind, freeKind, encodeRecord, encodeEnd}
+use Rattle.records.specs.Kinds.{variablesKind, onKind, freeKind, encodeRecord, recordLength, encodeEnd}
 use Rattle.records.proofs.Storing.{sets-append, sets-front}
 use Rattle.stored.specs.Layout.{firstPoint, tableLength}
-use Rattle.stored.specs.Marks.{Mark, mark}
+use Rattle.stored.specs.Marks.{Mark}
 use Rattle.stored.specs.Encoding.{markKind, encodeMarks, encodeTable}
 use Rattle.pla.specs.Table.{markOf, marksBelow}
 
 -- ---- the mark of a point
 
-pub mark-on : (free : Bool) (p : ℕ) → markOf true free p ≡ mark true p ∷ []
-unfolding markOf
-mark-on free p = refl
-
-pub mark-free : (p : ℕ) → markOf false true p ≡ mark false p ∷ []
-unfolding markOf
-mark-free p = refl
-
-pub mark-none : (p : ℕ) → markOf false false p ≡ []
-unfolding markOf
-mark-none p = refl
-
 -- At most one, and as many at every point.
-pub mark-length : (on free : Bool) (p q : ℕ) → length (markOf on free p) ≡ length (markOf on free q)
+pub mark-length : (on free : Bool) (p : ℕ) → length (markOf on free p) ≡ cond (on || free) 1 0
 unfolding markOf
-mark-length true free p q = refl
-mark-length false true p q = refl
-mark-length false false p q = refl
+mark-length true free p = refl
+mark-length false true p = refl
+mark-length false false p = refl
 
 pub mark-few : (on free : Bool) (p : ℕ) → length (markOf on free p) ≤ 1
 unfolding markOf
@@ -104,7 +92,7 @@ unfolding encodeMarks
 encode-append [] b = refl
 encode-append (m ∷ a) b = ap (λ (l : List ℕ). encodeRecord (markKind (m .isOn)) (m .point) ++ l) (encode-append a b)
 
-pub encode-length : (a : List Mark) → length (encodeMarks a) ≡ 3 * length a
+pub encode-length : (a : List Mark) → length (encodeMarks a) ≡ recordLength * length a
 unfolding encodeMarks
 encode-length [] = refl
 encode-length (m ∷ a) = omega (arith, encode-length a)

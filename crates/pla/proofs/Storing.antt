@@ -1,4 +1,5 @@
 -- What is written is a stored table: its reader accepts it and reads back n, the on points and the free points (`table-stored`, `call-stored`).
+-- Read next: Examples.
 use mathlib.Core.Path.{_≡_, refl, sym, ap, _∙_}
 use mathlib.Core.Bool.{Bool, true, false, cond, not, _&&_, _||_}
 use mathlib.Core.Logic.{inl}

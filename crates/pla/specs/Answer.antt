@@ -1,4 +1,4 @@
--- The call: the tests at the end of a text, the answer and the lent room after it.
+-- The call: the tests at the end of a text, the answer and the lent room after it. Read next: crate `pla_to_table`, the program.
 use mathlib.Core.Bool.{true, cond, not, _&&_, _||_}
 use mathlib.Core.List.{List, [], _∷_, _++_}
 use Prim.Native.Nat.{ℕ}

@@ -49,29 +49,20 @@ fn refused(number: u8, line: usize) -> PlaRead
 fn miscounted(head: Head) -> bool
     ensures { λ r. ⌜ r ≡ head .counted && not (eqb (head .products) (head .cubes)) ⌝ }
 {
-    if head.counted {
-        return head.products != head.cubes;
-    }
-    false
+    head.counted && head.products != head.cubes
 }
 
 // The refusal at the end of a text, or 0.
 fn text_fault(output: usize, head: Head) -> u8
     ensures { λ r. ⌜ r ≡ firstFault (endTests output head) ⌝ }
 {
-    if head.variables == 0 {
-        return HEAD_FAULT;
-    }
-    if head.outputs == 0 {
+    if head.variables == 0 || head.outputs == 0 {
         return HEAD_FAULT;
     }
     if miscounted(head) {
         return COUNT_FAULT;
     }
-    if output == 0 {
-        return OUTPUT_FAULT;
-    }
-    if output > head.outputs {
+    if output == 0 || output > head.outputs {
         return OUTPUT_FAULT;
     }
     0
@@ -95,13 +86,7 @@ fn mark_count(on: bool, free: bool) -> usize
     ensures { λ r. ⌜ ((p : ℕ) → r ≡ length (markOf on free p)) ⌝ }
     ensures { λ r. ⌜ r ≤ 1 ⌝ }
 {
-    if on {
-        return 1;
-    }
-    if free {
-        return 1;
-    }
-    0
+    if on || free { 1 } else { 0 }
 }
 
 // How many of the points of n variables are marked.

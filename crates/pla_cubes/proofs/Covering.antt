@@ -1,4 +1,4 @@
--- Laws of specs.Cubes: the inputs of a cube one by one at a point.
+-- Laws of specs.Cubes: the inputs of a cube one by one at a point. Read next: Marking.
 use mathlib.Core.Path.{_≡_}
 use mathlib.Core.Bool.{_&&_, true}
 use mathlib.Core.List.{List}

@@ -1,4 +1,4 @@
--- Laws of specs.Cubes: the symbols of a cube one by one, and how many they are.
+-- Laws of specs.Cubes: the symbols of a cube one by one, and how many they are. Read next: Covering.
 use mathlib.Core.Path.{_≡_, refl, sym, _∙_}
 use mathlib.Core.Bool.{Bool, true, false, _&&_}
 use mathlib.Core.List.{List, [], _∷_}
@@ -30,16 +30,11 @@ cube-wrong zero (suc o) b bs e = rw e
 cube-wrong (suc n) o b bs e = rw e
 
 -- At the end nothing may be to come.
-pub cube-inputs-left : (n o : ℕ) → 0 < n → isCube n o [] ≡ false
+pub cube-end : (n o : ℕ) → isCube n o [] ≡ eqb n 0 && eqb o 0
 unfolding isCube
-cube-inputs-left zero o h = absurd (omega arith)
-cube-inputs-left (suc n) o h = refl
-
-pub cube-outputs-left : (n o : ℕ) → n ≤ 0 → isCube n o [] ≡ eqb o 0
-unfolding isCube
-cube-outputs-left zero zero h = refl
-cube-outputs-left zero (suc o) h = sym (ne-eqb (suc o) 0 (λ e. omega arith))
-cube-outputs-left (suc n) o h = absurd (omega arith)
+cube-end zero zero = refl
+cube-end zero (suc o) = sym (ne-eqb (suc o) 0 (λ e. omega arith))
+cube-end (suc n) o = rw (ne-eqb (suc n) 0 (λ e. omega arith))
 
 -- A cube has as many symbols as inputs and outputs.
 pub cube-length : (n o : ℕ) (symbols : List ℕ) → isCube n o symbols ≡ true → length symbols ≡ n + o

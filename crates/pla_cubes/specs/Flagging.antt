@@ -1,4 +1,4 @@
--- Flags, one to a point, that hold what the rows so far say: one list for each of the symbols 1, 0 and dash.
+-- Flags, one to a point, that hold what the rows so far say: one list for each of the symbols 1, 0 and dash. Read next: crate `pla_lines`.
 use mathlib.Core.Path.{_≡_}
 use mathlib.Core.Bool.{Bool, false}
 use mathlib.Core.List.{List}

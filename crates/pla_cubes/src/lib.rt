@@ -25,23 +25,14 @@ pub struct Flags {
 fn is_input(symbol: u8) -> bool
     ensures { λ r. ⌜ r ≡ isInput symbol ⌝ }
 {
-    if symbol == b'0' {
-        return true;
-    }
-    if symbol == b'1' {
-        return true;
-    }
-    symbol == b'-'
+    symbol == b'0' || symbol == b'1' || symbol == b'-'
 }
 
 // A symbol of an output.
 fn is_output(symbol: u8) -> bool
     ensures { λ r. ⌜ r ≡ isOutput symbol ⌝ }
 {
-    if is_input(symbol) {
-        return true;
-    }
-    symbol == b'~'
+    is_input(symbol) || symbol == b'~'
 }
 
 // With so many inputs and outputs to come, the symbol may be the next.
@@ -51,10 +42,7 @@ fn takes(inputs: usize, outputs: usize, symbol: u8) -> bool
     if inputs > 0 {
         return is_input(symbol);
     }
-    if outputs > 0 {
-        return is_output(symbol);
-    }
-    false
+    outputs > 0 && is_output(symbol)
 }
 
 // A line's symbols are those of exactly so many inputs and then of exactly so many outputs.
@@ -79,10 +67,7 @@ pub fn is_cube(content: &[u8], inputs: usize, outputs: usize) -> bool
         }
         o -= 1;
     }
-    if n > 0 {
-        return false;
-    }
-    o == 0
+    n == 0 && o == 0
 }
 
 // The symbols of the inputs of a line that has as many.
@@ -107,10 +92,7 @@ pub fn output_symbol(content: &[u8], n: usize, outputs: usize, output: usize) ->
     requires { ⌜ length (symbolsOf (now content)) ≡ n + outputs ⌝ }
     ensures { λ r. ⌜ r ≡ rowOf n output (symbolsOf (now (content .entry))) .output ⌝ }
 {
-    if output == 0 {
-        return b'~';
-    }
-    if output > outputs {
+    if output == 0 || output > outputs {
         return b'~';
     }
     pla_text::symbol_at(content, n + (output - 1))
@@ -145,16 +127,6 @@ fn covers(inputs: [u8; MAX_VARIABLES], n: usize, point: u16) -> bool
     true
 }
 
-// One of the two holds.
-fn either(a: bool, b: bool) -> bool
-    ensures { λ r. ⌜ r ≡ a || b ⌝ }
-{
-    if a {
-        return true;
-    }
-    b
-}
-
 // The flags with those of the points that the cube covers, if it says so.
 fn mark(
     inputs: [u8; MAX_VARIABLES],
@@ -170,8 +142,7 @@ fn mark(
     }
     let mut i = 0;
     while i < MAX_POINTS {
-        let old = flags[i];
-        flags[i] = either(covers(inputs, n, i as u16), old);
+        flags[i] = covers(inputs, n, i as u16) || flags[i];
         i += 1;
     }
     flags
@@ -192,16 +163,6 @@ pub fn flags_with(flags: Flags, inputs: [u8; MAX_VARIABLES], n: usize, symbol: u
     }
 }
 
-// Both hold.
-fn both(a: bool, b: bool) -> bool
-    ensures { λ r. ⌜ r ≡ a && b ⌝ }
-{
-    if a {
-        return b;
-    }
-    false
-}
-
 // No point of n variables has both flags.
 pub fn apart(a: [bool; MAX_POINTS], b: [bool; MAX_POINTS], n: usize) -> bool
     requires { ⌜ n ≤ maxVariables ⌝ }
@@ -210,7 +171,7 @@ pub fn apart(a: [bool; MAX_POINTS], b: [bool; MAX_POINTS], n: usize) -> bool
     let size = table::point_count(n) as usize;
     let mut p = 0;
     while p < size {
-        if both(a[p], b[p]) {
+        if a[p] && b[p] {
             return false;
         }
         p += 1;

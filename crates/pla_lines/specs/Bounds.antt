@@ -1,4 +1,4 @@
--- What holds between lines: the numbers of the head are small, and what the code has read is what the definition found.
+-- What holds between lines: the numbers of the head are small, and what the code has read is what the definition found. Read next: crate `pla`.
 use mathlib.Core.Path.{_≡_}
 use Prim.Native.Nat.{ℕ, _≤_, _<_}
 use Rattle.gf2.specs.Limits.{maxVariables}

@@ -78,10 +78,7 @@ fn once_fault(head: Head, given: bool, number: u8, wrong: bool) -> u8
     if head.ended {
         return AFTER_FAULT;
     }
-    if given {
-        return SEQUENCE_FAULT;
-    }
-    if head.cubes != 0 {
+    if given || head.cubes != 0 {
         return SEQUENCE_FAULT;
     }
     if wrong {
@@ -94,10 +91,7 @@ fn once_fault(head: Head, given: bool, number: u8, wrong: bool) -> u8
 fn bad_outputs(count: usize) -> bool
     ensures { λ r. ⌜ r ≡ badOutputs count ⌝ }
 {
-    if count == 0 {
-        return true;
-    }
-    count > MAX_OUTPUTS
+    count == 0 || count > MAX_OUTPUTS
 }
 
 // The refusal of a directive, or 0.
@@ -176,10 +170,7 @@ fn shape_fault(content: &[u8], head: Head) -> u8
     if head.ended {
         return AFTER_FAULT;
     }
-    if head.variables == 0 {
-        return SEQUENCE_FAULT;
-    }
-    if head.outputs == 0 {
+    if head.variables == 0 || head.outputs == 0 {
         return SEQUENCE_FAULT;
     }
     if !pla_cubes::is_cube(content, head.variables, head.outputs) {

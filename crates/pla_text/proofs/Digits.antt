@@ -1,4 +1,4 @@
--- Laws of specs.Numbers: the digits of a word one by one.
+-- Laws of specs.Numbers: the digits of a word one by one. Read next: Directives.
 use mathlib.Core.Path.{_≡_, refl}
 use mathlib.Core.Bool.{Bool, true, false, cond, _&&_}
 use mathlib.Core.List.{List}

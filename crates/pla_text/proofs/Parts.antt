@@ -1,4 +1,5 @@
 -- Laws of specs.Text: bytes walked over one by one, the first part of a split and what follows it, and the words of a line one after the other.
+-- Read next: Digits.
 use mathlib.Core.Path.{_≡_, refl, sym, ap, _∙_}
 use mathlib.Core.Bool.{Bool, true, false, cond, not, _&&_}
 use mathlib.Core.List.{List, [], _∷_}

@@ -1,4 +1,4 @@
--- The statement that a line makes, by the words before its comment.
+-- The statement that a line makes, by the words before its comment. Read next: crate `pla_cubes`.
 use mathlib.Core.Bool.{cond, _||_}
 use mathlib.Core.List.{List, [], _∷_}
 use Prim.Native.Nat.{ℕ}

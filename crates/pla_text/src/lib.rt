@@ -42,13 +42,7 @@ pub const TYPE_FR: u8 = 3;
 pub fn is_blank(byte: u8) -> bool
     ensures { λ r. ⌜ r ≡ stops Stop.Blank byte ⌝ }
 {
-    if byte == b' ' {
-        return true;
-    }
-    if byte == b'\t' {
-        return true;
-    }
-    byte == b'\r'
+    byte == b' ' || byte == b'\t' || byte == b'\r'
 }
 
 // The walk stops at the byte.
@@ -100,10 +94,7 @@ fn with_digit(value: usize, byte: u8) -> usize
     requires { ⌜ value ≤ 1000000000 ⌝ }
     ensures { λ r. ⌜ r ≡ withDigit value byte ⌝ }
 {
-    if byte < b'0' {
-        return NO_NUMBER;
-    }
-    if byte > b'9' {
+    if byte < b'0' || byte > b'9' {
         return NO_NUMBER;
     }
     let next = 10 * value + (byte - b'0') as usize;
@@ -173,16 +164,10 @@ fn operand(name: &[u8], word: &[u8]) -> Statement
 fn directive(name: &[u8], count: usize, word: &[u8]) -> Statement
     ensures { λ r. ⌜ r ≡ directiveOf (now (name .entry)) count (now (word .entry)) ⌝ }
 {
-    if same(name, b".ilb") {
+    if same(name, b".ilb") || same(name, b".ob") {
         return Statement::Names;
     }
-    if same(name, b".ob") {
-        return Statement::Names;
-    }
-    if same(name, b".e") {
-        return end(count);
-    }
-    if same(name, b".end") {
+    if same(name, b".e") || same(name, b".end") {
         return end(count);
     }
     if count != 1 {

@@ -1,5 +1,5 @@
 -- `pla_cubes::apart` meets its contract. The loop's invariant: no point passed has both flags. Assumes nothing.
-use mathlib.Core.Path.{_≡_, sym, ap, _∙_}
+use mathlib.Core.Path.{_≡_, sym, ap}
 use mathlib.Core.Bool.{true, false, not, _&&_}
 use Prim.Native.Nat.{_-_, _≤_, _^_}
 use native.Mathlib.Omega.{arith}
@@ -7,6 +7,7 @@ use borrow.Author.Needs.{needs}
 use lib.ListN.{getD}
 use Rattle.gf2.specs.Finite.{all}
 use Rattle.table.specs.Flags.{maxPoints}
+use Rattle.pla_text.proofs.Tests.{some-fails}
 use Rattle.pla_cubes.proofs.Marking.{all-next, all-start, all-fails}
 use lib.Pow.{pow-mono}
 use Rattle.pla_cubes.proofs.apart.Statement.{statement}
@@ -29,20 +30,17 @@ loop-holds c =
     let point-count = c .point-count in
     (omega arith, point-count .ensures, rw (point-count .ensures) (pow-mono (c .before .pre)), all-start _)
 
-array-read-both : tie.Need-array-read-both Inv-loop μ-loop
-array-read-both c = omega (arith, c .before .loop .inv .2)
+array-read-if1 : tie.Need-array-read-if1 Inv-loop μ-loop
+array-read-if1 c = omega (arith, c .before .loop .inv .2)
 
-array-read-both-2 : tie.Need-array-read-both-2 Inv-loop μ-loop
-array-read-both-2 c = omega (arith, c .before .loop .inv .2)
-
-both-requires : tie.Need-both-requires Inv-loop μ-loop
-both-requires c κs = search needs
+array-read-if2 : tie.Need-array-read-if2 Inv-loop μ-loop
+array-read-if2 c = omega (arith, c .before .before .loop .inv .2)
 
 returns : tie.Need-returns Inv-loop μ-loop
 returns c =
     let args = c .before .before .before .before .before .args in
     let loop = c .before .before .before .loop in
-    let e : not (getD (args .t1) (loop .p) false && getD (args .t2) (loop .p) false) ≡ false = ap not (sym (c .before .both .ensures) ∙ c .if1 .taken) in
+    let e : not (getD (args .t1) (loop .p) false && getD (args .t2) (loop .p) false) ≡ false = rw (c .before .if1 .taken, c .if2 .taken) in
     sym (all-fails _ (2 ^ args .n) (loop .p) (omega (arith, loop .inv .1)) e)
 
 add-p : tie.Need-add-p Inv-loop μ-loop
@@ -53,9 +51,9 @@ loop-less c = search needs
 
 loop-again : tie.Need-loop-again Inv-loop μ-loop
 loop-again c =
-    let args = c .before .before .before .before .before .args in
-    let loop = c .before .before .before .loop in
-    let e : not (getD (args .t1) (loop .p) false && getD (args .t2) (loop .p) false) ≡ true = ap not (sym (c .before .both .ensures) ∙ c .if1 .left) in
+    let args = c .before .before .before .before .args in
+    let loop = c .before .before .loop in
+    let e : not (getD (args .t1) (loop .p) false && getD (args .t2) (loop .p) false) ≡ true = ap not (some-fails (λ w. w .1 .left) (λ w. w .left) (c .if1 .came)) in
     (omega arith, loop .inv .1, loop .inv .2, all-next _ (loop .p) e (loop .inv .3))
 
 returns-2 : tie.Need-returns-2 Inv-loop μ-loop
@@ -72,9 +70,8 @@ apart-spec =
     point-count-requires
     cast-size
     loop-holds
-    array-read-both
-    array-read-both-2
-    both-requires
+    array-read-if1
+    array-read-if2
     returns
     add-p
     loop-less

@@ -1,15 +1,17 @@
 -- `pla_cubes::is_cube` meets its contract. The loop's invariant: what is left decides whether it is a cube with what is to come. Assumes nothing.
 use mathlib.Core.Path.{_≡_, refl, sym, _∙_}
+use mathlib.Core.Bool.{_&&_}
 use mathlib.Core.List.{[]}
 use Prim.Native.Nat.{_-_, _≤_}
 use native.Mathlib.Omega.{arith}
 use borrow.Author.Needs.{needs}
-use borrow.Author.Tests.{not-true, not-false}
+use borrow.Author.Tests.{not-true, not-false, eq-eqb, ne-eqb}
+use lib.Dec.{eqb}
 use lib.ListN.{length, drop}
 use Rattle.pla_text.specs.Text.{symbolsOf}
 use Rattle.pla_text.proofs.Parts.{symbols-blank, symbols-byte, symbols-end}
 use Rattle.pla_cubes.specs.Cubes.{isCube, takes}
-use Rattle.pla_cubes.proofs.Shapes.{cube-input, cube-output, cube-wrong, cube-inputs-left, cube-outputs-left}
+use Rattle.pla_cubes.proofs.Shapes.{cube-input, cube-output, cube-wrong, cube-end}
 use Rattle.pla_cubes.proofs.is_cube.Statement.{statement}
 use Rattle.pla_cubes.proofs.is_cube.Tie as tie
 
@@ -82,11 +84,17 @@ loop-again-3 c =
     let e = symbols-byte (args .content .now) (l .i) (omega arith) (sym (c .before .before .before .before .is-blank .ensures) ∙ c .before .before .before .if1 .left) in
     (omega arith, sym (rw e (cube-output (l .n) (l .o) _ _ (c .if3 .left) (sym (c .before .before .takes .ensures) ∙ not-false _ (c .before .if2 .left)) .1)) ∙ l .inv .1)
 
+-- Where no symbol is left.
+ended : (c : tie.After-loop Inv-loop μ-loop) → eqb (c .before .loop .n) 0 && eqb (c .before .loop .o) 0 ≡ isCube (c .before .before .before .args .inputs) (c .before .before .before .args .outputs) (symbolsOf (c .before .before .before .args .content .now))
+ended c =
+    let l = c .before .loop in
+    sym (rw (symbols-end (c .before .before .before .args .content .now) (l .i) (omega arith)) (cube-end (l .n) (l .o))) ∙ l .inv .1
+
 returns-2 : tie.Need-returns-2 Inv-loop μ-loop
-returns-2 c = let l = c .before .before .loop in sym (sym (l .inv .1) ∙ rw (symbols-end (c .before .before .before .before .args .content .now) (l .i) (omega arith)) (cube-inputs-left (l .n) (l .o) (c .if4 .taken)))
+returns-2 c = rw (eq-eqb _ _ (c .if4 .taken)) at (ended (c .before))
 
 returns-3 : tie.Need-returns-3 Inv-loop μ-loop
-returns-3 c = let l = c .before .before .loop in sym (sym (l .inv .1) ∙ rw (symbols-end (c .before .before .before .before .args .content .now) (l .i) (omega arith)) (cube-outputs-left (l .n) (l .o) (c .if4 .left)))
+returns-3 c = ne-eqb _ _ (c .if4 .left) ∙ rw (ne-eqb _ _ (c .if4 .left)) at (ended (c .before))
 
 pub is-cube-spec : {M : Type 1} → statement M
 is-cube-spec =

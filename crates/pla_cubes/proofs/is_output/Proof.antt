@@ -8,7 +8,7 @@ is-input-requires : tie.Need-is-input-requires
 is-input-requires c κs = search needs
 
 returns : tie.Need-returns
-returns c = rw (sym (c .before .is-input .ensures) ∙ c .if1 .taken)
+returns c = c .if1 .taken ∙ rw (sym (c .before .is-input .ensures) ∙ c .if1 .taken)
 
 returns-2 : tie.Need-returns-2
 returns-2 c = rw (sym (c .before .is-input .ensures) ∙ c .if1 .left)

@@ -7,6 +7,7 @@ use borrow.Author.Needs.{needs}
 use borrow.Author.Tests.{not-true, not-false}
 use lib.ListN.{length, take, length-set}
 use Rattle.table.specs.Flags.{maxPoints}
+use Rattle.pla_text.proofs.Tests.{either}
 use Rattle.pla_cubes.specs.Cubes.{covers, says}
 use Rattle.pla_cubes.proofs.Marking.{Marking, marking-start, marking-next}
 use Rattle.pla_cubes.proofs.mark.Statement.{statement}
@@ -24,17 +25,14 @@ returns c = λ p h. rw (not-true (c .before .args .says) (c .if1 .taken))
 loop-holds : tie.Need-loop-holds Inv-loop μ-loop
 loop-holds c = (omega arith, search needs, not-false _ (c .if1 .left), marking-start _ _)
 
-array-read-old : tie.Need-array-read-old Inv-loop μ-loop
-array-read-old c = search needs
-
 cast-covers : tie.Need-cast-covers Inv-loop μ-loop
 cast-covers c = search needs
 
 covers-requires : tie.Need-covers-requires Inv-loop μ-loop
 covers-requires c κs = search needs
 
-either-requires : tie.Need-either-requires Inv-loop μ-loop
-either-requires c κs = search needs
+array-read-flags : tie.Need-array-read-flags Inv-loop μ-loop
+array-read-flags c = search needs
 
 array-write-flags : tie.Need-array-write-flags Inv-loop μ-loop
 array-write-flags c = search needs
@@ -47,10 +45,9 @@ loop-less c = search needs
 
 loop-again : tie.Need-loop-again Inv-loop μ-loop
 loop-again c =
-    let either = c .either in
     let l = c .before .before .before .loop in
-    let v = rw (c .before .covers .ensures) at (either .ensures) in
-    (omega arith, simp length-set (l .inv .1), l .inv .2, marking-next (either .result) (omega (arith, l .inv .1)) v (l .inv .3))
+    let v = rw (c .before .covers .ensures) at (either (λ w. w .taken) (λ w. w .left) (c .if2 .came)) in
+    (omega arith, simp length-set (l .inv .1), l .inv .2, marking-next (c .if2 .flags) (omega (arith, l .inv .1)) v (l .inv .3))
 
 returns-2 : tie.Need-returns-2 Inv-loop μ-loop
 returns-2 c =
@@ -65,10 +62,9 @@ mark-spec =
     μ-loop
     returns
     loop-holds
-    array-read-old
     cast-covers
     covers-requires
-    either-requires
+    array-read-flags
     array-write-flags
     add-i
     loop-less

@@ -1,8 +1,9 @@
 -- `pla_text::operand` meets its contract: its tests are those of the definition, in their order. Assumes nothing.
-use mathlib.Core.Path.{sym, ap, _∙_}
+use mathlib.Core.Path.{ap}
 use borrow.Author.Needs.{needs}
 use Rattle.pla_text.specs.Statements.{operandOf}
-use Rattle.pla_text.specs.declared.Statement.the-variants.{Inputs, Outputs, Products, Meaning}
+use Rattle.pla_text.specs.declared.Statement.the-variants.{Products, Meaning}
+use Rattle.pla_text.proofs.Tests.{chosen, passed}
 use Rattle.pla_text.proofs.operand.Statement.{statement}
 use Rattle.pla_text.proofs.operand.Tie as tie
 
@@ -17,7 +18,7 @@ number-requires c κs = search needs
 
 returns : tie.Need-returns
 unfolding operandOf
-returns c = rw (sym (c .before .before .same .ensures) ∙ c .before .if1 .taken) (ap Inputs (c .number .ensures))
+returns c = search chosen
 
 slice-aggregate-same-2 : tie.Need-slice-aggregate-same-2
 slice-aggregate-same-2 c = search needs
@@ -30,9 +31,7 @@ number-requires-2 c κs = search needs
 
 returns-2 : tie.Need-returns-2
 unfolding operandOf
-returns-2 c =
-    let same = c .before .before .before .before .before .same in
-    rw (sym (same .ensures) ∙ c .before .before .before .before .if1 .left, sym (c .before .before .same2 .ensures) ∙ c .before .if2 .taken) (ap Outputs (c .number2 .ensures))
+returns-2 c = search (chosen, passed)
 
 slice-aggregate-same-3 : tie.Need-slice-aggregate-same-3
 slice-aggregate-same-3 c = search needs
@@ -45,12 +44,7 @@ number-requires-3 c κs = search needs
 
 returns-3 : tie.Need-returns-3
 unfolding operandOf
-returns-3 c =
-    let same = c .before .before .before .before .before .before .before .before .same in
-    let if1 = c .before .before .before .before .before .before .before .if1 in
-    let same2 = c .before .before .before .before .before .same2 in
-    rw (sym (same .ensures) ∙ if1 .left, sym (same2 .ensures) ∙ c .before .before .before .before .if2 .left, sym (c .before .before .same3 .ensures) ∙ c .before .if3 .taken)
-    (ap Products (c .number3 .ensures))
+returns-3 c = let e = ap Products (c .number3 .ensures) in search (chosen, passed)
 
 slice-aggregate-same-4 : tie.Need-slice-aggregate-same-4
 slice-aggregate-same-4 c = search needs
@@ -63,32 +57,11 @@ type-of-requires c κs = search needs
 
 returns-4 : tie.Need-returns-4
 unfolding operandOf
-returns-4 c =
-    let same = c .before .before .before .before .before .before .before .before .before .before .before .same in
-    let if1 = c .before .before .before .before .before .before .before .before .before .before .if1 in
-    let same2 = c .before .before .before .before .before .before .before .before .same2 in
-    let if2 = c .before .before .before .before .before .before .before .if2 in
-    let same3 = c .before .before .before .before .before .same3 in
-    rw (
-      sym (same .ensures) ∙ if1 .left,
-      sym (same2 .ensures) ∙ if2 .left,
-      sym (same3 .ensures) ∙ c .before .before .before .before .if3 .left,
-      sym (c .before .before .same4 .ensures) ∙ c .before .if4 .taken,
-    ) (ap Meaning (c .type-of .ensures))
+returns-4 c = let e = ap Meaning (c .type-of .ensures) in search (chosen, passed)
 
 returns-5 : tie.Need-returns-5
 unfolding operandOf
-returns-5 c =
-    let same = c .before .before .before .before .before .before .before .before .before .before .same in
-    let if1 = c .before .before .before .before .before .before .before .before .before .if1 in
-    let same2 = c .before .before .before .before .before .before .before .same2 in
-    let if2 = c .before .before .before .before .before .before .if2 in
-    rw (
-      sym (same .ensures) ∙ if1 .left,
-      sym (same2 .ensures) ∙ if2 .left,
-      sym (c .before .before .before .before .same3 .ensures) ∙ c .before .before .before .if3 .left,
-      sym (c .before .same4 .ensures) ∙ c .if4 .left,
-    )
+returns-5 c = search passed
 
 pub operand-spec : {M : Type 1} → statement M
 operand-spec =

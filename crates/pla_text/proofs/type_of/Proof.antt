@@ -1,7 +1,7 @@
 -- `pla_text::type_of` meets its contract: its tests are those of the definition. Assumes nothing.
-use mathlib.Core.Path.{sym, _∙_}
 use borrow.Author.Needs.{needs}
 use Rattle.pla_text.specs.Statements.{typeOf}
+use Rattle.pla_text.proofs.Tests.{chosen, passed}
 use Rattle.pla_text.proofs.type_of.Statement.{statement}
 use Rattle.pla_text.proofs.type_of.Tie as tie
 
@@ -13,7 +13,7 @@ same-requires c κs = search needs
 
 returns : tie.Need-returns
 unfolding typeOf
-returns c = rw (sym (c .before .same .ensures) ∙ c .if1 .taken)
+returns c = search chosen
 
 slice-aggregate-same-2 : tie.Need-slice-aggregate-same-2
 slice-aggregate-same-2 c = search needs
@@ -23,7 +23,7 @@ same-requires-2 c κs = search needs
 
 returns-2 : tie.Need-returns-2
 unfolding typeOf
-returns-2 c = rw (sym (c .before .before .before .before .same .ensures) ∙ c .before .before .before .if1 .left, sym (c .before .same2 .ensures) ∙ c .if2 .taken)
+returns-2 c = search (chosen, passed)
 
 slice-aggregate-same-3 : tie.Need-slice-aggregate-same-3
 slice-aggregate-same-3 c = search needs
@@ -33,17 +33,11 @@ same-requires-3 c κs = search needs
 
 returns-3 : tie.Need-returns-3
 unfolding typeOf
-returns-3 c =
-    let same = c .before .before .before .before .before .before .before .same in
-    let if1 = c .before .before .before .before .before .before .if1 in
-    rw (sym (same .ensures) ∙ if1 .left, sym (c .before .before .before .before .same2 .ensures) ∙ c .before .before .before .if2 .left, sym (c .before .same3 .ensures) ∙ c .if3 .taken)
+returns-3 c = search (chosen, passed)
 
 returns-4 : tie.Need-returns-4
 unfolding typeOf
-returns-4 c =
-    let same = c .before .before .before .before .before .before .before .same in
-    let if1 = c .before .before .before .before .before .before .if1 in
-    rw (sym (same .ensures) ∙ if1 .left, sym (c .before .before .before .before .same2 .ensures) ∙ c .before .before .before .if2 .left, sym (c .before .same3 .ensures) ∙ c .if3 .left)
+returns-4 c = search passed
 
 pub type-of-spec : {M : Type 1} → statement M
 type-of-spec =
