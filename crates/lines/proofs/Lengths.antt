@@ -1,4 +1,4 @@
--- How long the lines can be. Read next: crate `report`, which adds them up.
+-- How long the lines can be. Crate `table_report` adds them up. Read next: Examples.
 use mathlib.Core.Path.{_≡_, refl}
 use mathlib.Core.Bool.{Bool}
 use mathlib.Core.Logic.{inl, inr}

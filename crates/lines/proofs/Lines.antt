@@ -1,10 +1,10 @@
--- The lists of specs.Lines as texts made of pieces, one for each place of a list.
+-- The lists of specs.Lines as texts made of pieces, one for each place of a list. Read next: Lengths.
 use mathlib.Core.Path.{_≡_, refl, sym, ap, _∙_}
 use mathlib.Core.List.{List, [], _∷_, _++_, zipWith, flatMap}
 use Prim.Native.Nat.{ℕ, zero, suc, _+_}
 use native.Mathlib.Omega.{arith}
 use lib.ListN.{length, getD}
-use Rattle.product.specs.Product.{Factor, factor}
+use Rattle.product.specs.Product.{factor}
 use Rattle.text.proofs.Pieces.{pieces, pieces-same, pieces-front, flat-pieces}
 use Rattle.lines.specs.Lines.{listText, equationLine, equationLines, factorText}
 

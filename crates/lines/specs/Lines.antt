@@ -1,4 +1,5 @@
 -- The lines of the printed report, each with its newline (document 01, "The printed report").
+-- Read next: crate `table_report`, which puts them together.
 use mathlib.Core.List.{List, [], _∷_, _++_, flatMap}
 use Prim.Native.Nat.{ℕ, _+_}
 use Rattle.gf2.specs.Bits.{bit}

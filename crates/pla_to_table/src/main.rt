@@ -1,8 +1,9 @@
 // Reads a truth table in Berkeley PLA from standard input and writes one output of it as a stored table to standard output. The output is the
 // first argument, counted from 1; without one it is the first. A refusal goes to standard error as its number and, where a line is at fault, that
-// line (docs/DECISIONS.md).
+// line (docs/DECISIONS.md). Read next: crate `pla`, whose call it makes.
 ghost use mathlib.Core.Path.{_≡_};
 ghost use lib.ListN.{length};
+ghost use Rattle.stored.specs.Layout.{longestTable};
 use libc::STDERR_FILENO;
 use libc::STDIN_FILENO;
 use libc::STDOUT_FILENO;
@@ -20,7 +21,7 @@ fn text_room() -> [u8; MAX_TEXT + 1]
 
 // Room for the longest stored table.
 fn table_room() -> [u8; stored::LONGEST_TABLE]
-    ensures { λ r. ⌜ 12293 ≡ length r ⌝ }
+    ensures { λ r. ⌜ longestTable ≡ length r ⌝ }
 {
     [0; stored::LONGEST_TABLE]
 }

@@ -1,4 +1,4 @@
--- Laws of specs.Kinds: the byte of each known kind, and that a number of two bytes and its bytes give each other.
+-- Laws of specs.Kinds: the byte of each known kind, and that a number of two bytes and its bytes give each other. Read next: Whole.
 use mathlib.Core.Path.{_≡_, refl, subst}
 use mathlib.Core.Bool.{Bool, true, false, cond}
 use Prim.Native.Nat.{ℕ, _<_}

@@ -1,5 +1,5 @@
 -- The kinds of records, the length of the body that each fixes, and numbers of two bytes (document 01, "The written form").
--- Read next: crate `stored`, which reads a stored table.
+-- Read next: Walks.
 use mathlib.Core.Bool.{cond}
 use mathlib.Core.List.{List, [], _∷_}
 use Prim.Native.Nat.{ℕ, _+_, _*_, _/_, _%_, _<_}

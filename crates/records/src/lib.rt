@@ -1,5 +1,5 @@
 // Records of the written form (document 01, "The written form"): one byte of kind, then a body whose length the kind fixes; wider
-// numbers are low byte first. The readers of stored tables and of forms and the writer of forms go by these functions. Read next: specs/Kinds.antt.
+// numbers are low byte first. The readers of stored tables and of forms and the writers of both go by these functions. Read next: specs/Kinds.antt.
 ghost use mathlib.Core.Path.{_≡_};
 ghost use mathlib.Core.List.{[], _∷_};
 ghost use Prim.Native.Nat.{_+_, _≤_, _<_};

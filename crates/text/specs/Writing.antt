@@ -1,4 +1,4 @@
--- What it is to write a text into lent bytes at a place.
+-- What it is to write a text into lent bytes at a place. Read next: crate `lines`.
 use mathlib.Core.Path.{_≡_}
 use mathlib.Core.List.{List}
 use Prim.Native.Nat.{ℕ, _+_, _≤_}
