@@ -44,8 +44,6 @@ body-length m place rest l e =
     let same : l ≡ m = cc (h .0) in
     (same, subst (λ (k : ℕ). k ≤ length rest) same (h .1))
 
--- ---- each record, once it is whole
-
 -- A fault is no table and no form.
 pub faulty : {A : Type 0} {found : Walk} {count : ℕ} → isFault found ≡ true → found ≡ Laid count → A
 faulty p e = clash p (ap isFault e)

@@ -32,7 +32,7 @@ fn write_digit(room: &mut [u8], at: usize, d: usize) -> usize
 }
 
 // A number in decimal.
-pub fn write_decimal(room: &mut [u8], at: usize, n: usize) -> usize
+fn write_decimal(room: &mut [u8], at: usize, n: usize) -> usize
     requires { ⌜ HasRoom (now room) at (decimal n) ⌝ }
     ensures { λ r. ⌜ Wrote (now (room .entry)) at (decimal n) (now (room .exit)) r ⌝ }
 {
