@@ -48,9 +48,8 @@ takes-requires c κs = search needs
 
 returns : tie.Need-returns Inv-loop μ-loop
 returns c =
-    let loop = c .before .before .before .before .before .before .loop in
+    let l = c .before .before .before .before .before .before .loop in
     let args = c .before .before .before .before .before .before .before .before .args in
-    let l = loop in
     let e = symbols-byte (args .content .now) (l .i) (omega arith) (sym (c .before .before .before .is-blank .ensures) ∙ c .before .before .if1 .left) in
     sym (sym (l .inv .1) ∙ rw e (cube-wrong (l .n) (l .o) _ _ (sym (c .before .takes .ensures) ∙ not-true _ (c .if2 .taken))))
 
@@ -62,9 +61,8 @@ loop-less-2 c = search needs
 
 loop-again-2 : tie.Need-loop-again-2 Inv-loop μ-loop
 loop-again-2 c =
-    let loop = c .before .before .before .before .before .before .before .loop in
+    let l = c .before .before .before .before .before .before .before .loop in
     let args = c .before .before .before .before .before .before .before .before .before .args in
-    let l = loop in
     let e = symbols-byte (args .content .now) (l .i) (omega arith) (sym (c .before .before .before .before .is-blank .ensures) ∙ c .before .before .before .if1 .left) in
     (omega arith, sym (rw e (cube-input (l .n) (l .o) _ _ (c .if3 .taken) (sym (c .before .before .takes .ensures) ∙ not-false _ (c .before .if2 .left)))) ∙ l .inv .1)
 
@@ -78,9 +76,8 @@ loop-less-3 c = search needs
 
 loop-again-3 : tie.Need-loop-again-3 Inv-loop μ-loop
 loop-again-3 c =
-    let loop = c .before .before .before .before .before .before .before .loop in
+    let l = c .before .before .before .before .before .before .before .loop in
     let args = c .before .before .before .before .before .before .before .before .before .args in
-    let l = loop in
     let e = symbols-byte (args .content .now) (l .i) (omega arith) (sym (c .before .before .before .before .is-blank .ensures) ∙ c .before .before .before .if1 .left) in
     (omega arith, sym (rw e (cube-output (l .n) (l .o) _ _ (c .if3 .left) (sym (c .before .before .takes .ensures) ∙ not-false _ (c .before .if2 .left)) .1)) ∙ l .inv .1)
 

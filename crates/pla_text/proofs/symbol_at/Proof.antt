@@ -42,9 +42,8 @@ shared-slice-read-result c = search needs
 
 returns : tie.Need-returns Inv-loop μ-loop
 returns c =
-    let loop = c .before .before .before .before .before .before .loop in
+    let l = c .before .before .before .before .before .before .loop in
     let args = c .before .before .before .before .before .before .before .before .args in
-    let l = loop in
     let e = symbols-byte (args .content .now) (l .i) (omega arith) (sym (c .before .before .before .is-blank .ensures) ∙ c .before .before .if1 .left) in
     rw (e, c .before .if2 .taken) at (l .inv .1)
 
@@ -59,9 +58,8 @@ loop-less-2 c = search needs
 
 loop-again-2 : tie.Need-loop-again-2 Inv-loop μ-loop
 loop-again-2 c =
-    let loop = c .before .before .before .before .before .loop in
+    let l = c .before .before .before .before .before .loop in
     let args = c .before .before .before .before .before .before .before .args in
-    let l = loop in
     let e = symbols-byte (args .content .now) (l .i) (omega arith) (sym (c .before .before .is-blank .ensures) ∙ c .before .if1 .left) in
     let z : l .left ≡ suc (l .left - 1) = omega (arith, c .if2 .left) in
     (omega arith, rw (e, z) at (l .inv .1))
