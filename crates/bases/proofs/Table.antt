@@ -1,4 +1,4 @@
--- The table is right for six variables, by computation, and so serves every smaller number of variables.
+-- The table is right for six variables, by computation, and so serves every smaller number of variables. Read next: Bounds.
 use mathlib.Core.Path.{_≡_, refl, sym, ap, _∙_, subst}
 use mathlib.Core.Bool.{Bool, true, _&&_}
 use mathlib.Core.Logic.{inl, inr}

@@ -1,4 +1,4 @@
--- An entry of the table of bases as a candidate.
+-- An entry of the table of bases as a candidate. Read next: crate `masks`.
 use mathlib.Core.Path.{_≡_}
 use mathlib.Core.Bool.{true}
 use Prim.Native.Nat.{ℕ, _^_, _≤_, _<_}

@@ -1,4 +1,4 @@
--- Reduced bases by value (document 01, "Points and spaces").
+-- Reduced bases by value (document 01, "Points and spaces"). Read next: crate `table`.
 use mathlib.Core.Path.{_≡_}
 use mathlib.Core.Bool.{false}
 use mathlib.Core.Logic.{_↔_}

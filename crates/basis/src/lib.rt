@@ -1,5 +1,5 @@
 // A reduced basis by value, built by putting in one vector at a time (document 01, "Points and spaces" and "Forms and where they belong").
-// A basis is passed as `self` and handed back; `EMPTY` and `full(n)` are the named starting values. Read first: crate `gf2`.
+// A basis is passed as `self` and handed back; `EMPTY` and `full(n)` are the named starting values. Read next: specs/Short.antt.
 ghost use mathlib.Core.Path.{_≡_};
 ghost use mathlib.Core.List.{[], _∷_, _++_};
 ghost use Prim.Native.Nat.{ℕ, _+_, _≤_, _<_, _^_, min, max};

@@ -1,4 +1,5 @@
 -- Laws of what is taken: the flags of the points that a prime holds, a prime put behind the others, and the points gone through one after the other.
+-- Read next: Products.
 use mathlib.Core.Path.{_≡_, refl, sym, ap, ap₂, _∙_, fun-ext}
 use mathlib.Core.Bool.{Bool, true, false, _&&_, _||_, or-false, or-true}
 use mathlib.Core.List.{List, [], _∷_, _++_}

@@ -1,4 +1,5 @@
 -- The primes chosen, as a value (document 01, "The written form"). That they are `chosen` of crate `cover` is what `Chose` says.
+-- Read next: crate `factors`.
 use mathlib.Core.Path.{_≡_}
 use mathlib.Core.Bool.{Bool, false, _||_}
 use mathlib.Core.List.{List, [], _∷_, _++_, map}

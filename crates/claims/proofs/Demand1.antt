@@ -1,4 +1,4 @@
--- Demand 1 holds: one law about any call that decides by its tests, and a line for each call. Read next: Demand2.
+-- Demand 1 holds: one law about any call that decides by its tests, and a line for each call. Read next: FormBytes.
 use mathlib.Core.Path.{_≡_, refl, ap, _∙_}
 use mathlib.Core.Bool.{false}
 use mathlib.Core.List.{List, [], map}

@@ -91,5 +91,5 @@ pub record Demand2 (n : ℕ) (on free : List ℕ) (r : Reported) : Type 0 where
   pub restriction-rises : Rising (r .restriction)
   pub restriction-below : (y : ℕ) → Mem y (r .restriction) → y < 2 ^ length (r .equations)
   pub variables : length (r .equations) + length (r .basis) ≡ n
-  -- A form is given exactly where the restriction has at most six variables (refusal 5).
+  -- Where the restriction has at most six variables there is a form; where it has more, the form is refused with 5, which is part of demand 1.
   pub form : n - length (r .basis) ≤ maxListed → FormSays n on free r

@@ -1,4 +1,4 @@
--- The form written for a table (document 01, "The written form"): its products in their order, and its refusal 5.
+-- The form written for a table (document 01, "The written form"): its products in their order, and its refusal 5. Read next: crate `choice`.
 use mathlib.Core.Bool.{Bool}
 use mathlib.Core.List.{List, map}
 use Prim.Native.Nat.{ℕ, _-_}

@@ -1,4 +1,4 @@
--- Lists of listing calls, and demand 3 (document 01, "Primes"): a single claim about the whole list of calls.
+-- Lists of listing calls, and demand 3 (document 01, "Primes"): a single claim about the whole list of calls. Read next: crate `counts`.
 use mathlib.Core.Path.{_≡_}
 use mathlib.Core.Bool.{Bool, true, false, cond, _&&_}
 use mathlib.Core.Logic.{_≢_, _↔_}

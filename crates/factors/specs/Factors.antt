@@ -1,4 +1,4 @@
--- A product by value (document 01, "The written form"): the constants and the masks of its factors.
+-- A product by value (document 01, "The written form"): the constants and the masks of its factors. Read next: crate `writing`.
 use mathlib.Core.Path.{_≡_}
 use mathlib.Core.List.{List, map, zipWith}
 use Prim.Native.Nat.{ℕ, _≤_}

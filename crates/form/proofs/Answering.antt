@@ -1,4 +1,4 @@
--- Laws of specs.Reading: the tests of a form's bytes, the ways out of the calls that read a form, and its points.
+-- Laws of specs.Reading: the tests of a form's bytes, the ways out of the calls that read a form, and its points. Read next: Examples.
 use mathlib.Core.Path.{_≡_, refl, ap}
 use mathlib.Core.Bool.{true}
 use mathlib.Core.Logic.{inl, inr, _↔_}

@@ -1,5 +1,5 @@
 -- When the bytes of a form are refused and with which number, and the answers of the calls that read a form
--- (document 01, "Refusal numbers").
+-- (document 01, "Refusal numbers"). Read next: crate `cubes`.
 use mathlib.Core.Path.{_≡_}
 use mathlib.Core.Bool.{false}
 use mathlib.Core.List.{List, _++_}

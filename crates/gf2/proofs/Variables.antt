@@ -1,4 +1,4 @@
--- Laws of the lead places and of the canonical and noncanonical variables.
+-- Laws of the lead places and of the canonical and noncanonical variables. Read next: Examples.
 use mathlib.Core.Path.{_≡_, refl, sym, ap, ap₂, _∙_, subst}
 use mathlib.Core.Bool.{Bool, true, false, not, cond, _||_}
 use mathlib.Core.Logic.{inl, inr, _≢_}

@@ -1,5 +1,5 @@
 -- The reduced basis: what it is, how one vector is put into it, and the reduced basis of a set that a test gives
--- (document 01, "Points and spaces").
+-- (document 01, "Points and spaces"). Read next: crate `basis`.
 use mathlib.Core.Path.{_≡_}
 use mathlib.Core.Bool.{Bool, false, not, cond, _&&_, _||_}
 use mathlib.Core.List.{List, [], _∷_, _++_, map}

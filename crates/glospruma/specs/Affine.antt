@@ -1,4 +1,5 @@
 -- The call `affine`: the smallest affine space of the on points (document 01, "Points and spaces"; free points play no part).
+-- Read next: crate `claims`.
 use mathlib.Core.List.{List, [], _∷_, _++_}
 use Prim.Native.Nat.{ℕ}
 use lib.Dec.{eqb}

@@ -1,6 +1,6 @@
 // The public calls. Each takes numbers and lent slices, asks nothing of its caller, and says in its contract what it returns and what every
 // lent slice holds afterwards, on all inputs: see specs/. A refused call returns the number of document 01, "Refusal numbers", with all
-// other numbers 0 and all lent memory as before. All calls are exported to C and Rust. Read first: specs/Lib.antt.
+// other numbers 0 and all lent memory as before. All calls are exported to C and Rust. Read next: specs/Spaces.antt.
 ghost use mathlib.Core.Path.{_≡_};
 ghost use lib.ListN.{length};
 ghost use Rattle.stored.specs.Reading.{readAnswer, onAfter, freeAfter};

@@ -1,5 +1,5 @@
 // The program: a stored table on standard input, its report on standard output (document 01, "The printed report"). What is printed is
-// `reportText` of crate `report`.
+// `reportText` of crate `report`. Read next: crate `report`.
 use libc::STDIN_FILENO;
 use libc::STDOUT_FILENO;
 use report::TEXT_ROOM;

@@ -1,4 +1,5 @@
 -- The listing call of some arguments, and its answer's numbers (document 01, "Primes"). What they are is said in crate `cubes`.
+-- Read next: crate `cover`.
 use mathlib.Core.List.{List}
 use Prim.Native.Nat.{ℕ}
 use Rattle.cubes.specs.Listing.{Call, Answer}

@@ -1,5 +1,5 @@
 // The listing of primes (document 01, "Primes"): its refusals, where it starts, and the walk of crate `walk` from there. What the listing is, is
-// said in crate `cubes`; what the functions say of their results in specs/, the laws about that in proofs/.
+// said in crate `cubes`; what the functions say of their results in specs/, the laws about that in proofs/. Read next: specs/Starts.antt.
 ghost use mathlib.Core.Path.{_≡_};
 ghost use mathlib.Core.List.{[]};
 ghost use Prim.Native.Nat.{_≤_};

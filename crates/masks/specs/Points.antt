@@ -1,4 +1,4 @@
--- Sets of points as masks: bit x of a mask stands for point x (document 01, "Primes").
+-- Sets of points as masks: bit x of a mask stands for point x (document 01, "Primes"). Read next: crate `walk`.
 use mathlib.Core.Path.{_≡_}
 use mathlib.Core.Bool.{Bool, true}
 use mathlib.Core.List.{List, [], _∷_}

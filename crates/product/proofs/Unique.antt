@@ -1,4 +1,4 @@
--- A canonical product is known by its points: two canonical products of n variables with the same points are equal.
+-- A canonical product is known by its points: two canonical products of n variables with the same points are equal. Read next: Examples.
 use mathlib.Core.Path.{_≡_, refl, sym, ap, ap₂, _∙_, subst}
 use mathlib.Core.Bool.{Bool, true, false, _&&_}
 use mathlib.Core.Logic.{inl, inr}

@@ -1,4 +1,4 @@
--- XOR factors, products of factors, and canonical products (document 01, "The written form").
+-- XOR factors, products of factors, and canonical products (document 01, "The written form"). Read next: crate `form`.
 use mathlib.Core.Path.{_≡_}
 use mathlib.Core.Bool.{Bool, true, false, not, _&&_, _||_, Bool·beq}
 use mathlib.Core.Logic.{_≢_}

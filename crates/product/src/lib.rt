@@ -1,5 +1,5 @@
 // XOR factors and canonical products (document 01, "The written form"): the lowest bit of a mask, a factor at a point, and the test for two
-// masks of one product. What the words mean is in specs/, the laws about them in proofs/.
+// masks of one product. What the words mean is in specs/, the laws about them in proofs/. Read next: specs/Lowest.antt.
 ghost use mathlib.Core.Path.{_≡_};
 ghost use Prim.Native.Nat.{_<_};
 ghost use Rattle.product.specs.Lowest.{lowest};

@@ -1,4 +1,4 @@
--- The definitions as the loops of this crate meet them: one bit, one point or one vector more.
+-- The definitions as the loops of this crate meet them: one bit, one point or one vector more. Read next: Restrictions.
 use mathlib.Core.Path.{_≡_, sym, ap, _∙_, subst}
 use mathlib.Core.Bool.{Bool}
 use mathlib.Core.Logic.{_↔_}

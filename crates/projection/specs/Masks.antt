@@ -1,5 +1,5 @@
 -- The restriction and the projection by the mask of the lead bits of a basis (document 01, "Points and spaces"). That they are those of the
--- basis is `kept-restriction` and `projected-projection`.
+-- basis is `kept-restriction` and `projected-projection`. Read next: crate `product`.
 use mathlib.Core.Bool.{Bool, not, _&&_}
 use mathlib.Core.List.{List, map}
 use Prim.Native.Nat.{ℕ, _^_}

@@ -1,5 +1,5 @@
 // Reduction equations, the restriction by a lead mask, and the smallest affine space (document 01, "Points and spaces"). What the words mean
-// is in specs/ here and in crate `space`, the laws about them in proofs/ of both.
+// is in specs/ here and in crate `space`, the laws about them in proofs/ of both. Read next: specs/Masks.antt.
 use basis::Basis;
 use basis::ShortList;
 use table::MAX_POINTS;

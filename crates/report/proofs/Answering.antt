@@ -1,5 +1,5 @@
 -- What the call that gives the report needs: reading with rooms for every point refuses just what the stored table refuses, a text at the front of
--- lent bytes, and the answer and the room by the one decision.
+-- lent bytes, and the answer and the room by the one decision. Read next: Examples.
 use mathlib.Core.Path.{_≡_, refl, sym, ap, _∙_}
 use mathlib.Core.Bool.{Bool, true, false, cond}
 use mathlib.Core.Logic.{_≢_}

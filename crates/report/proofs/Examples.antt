@@ -90,7 +90,7 @@ examples =
     -- No variables
     example (0x4E ∷ 0x00 ∷ 0x45 ∷ 0x00 ∷ 0x00 ∷ []) (
     114 ∷ 101 ∷ 102 ∷ 117 ∷ 115 ∷ 101 ∷ 100 ∷ 32 ∷ 49 ∷ 10 ∷ []) ∷
-    -- A point of two variables in a table of one
+    -- Point 95 in a table of one variable
     example (0x4E ∷ 0x01 ∷ 0x44 ∷ 0x5F ∷ 0x00 ∷ 0x44 ∷ 0x01 ∷ 0x00 ∷ 0x45 ∷ 0x02 ∷ 0x00 ∷ []) (
     114 ∷ 101 ∷ 102 ∷ 117 ∷ 115 ∷ 101 ∷ 100 ∷ 32 ∷ 50 ∷ 10 ∷ []) ∷
     -- Points that fall

@@ -1,4 +1,4 @@
--- The call that gives the report: its one refusal, its answer and its lent room (document 01, "Refusal numbers").
+-- The call that gives the report: its one refusal, its answer and its lent room (document 01, "Refusal numbers"). Read next: crate `glospruma`.
 use mathlib.Core.List.{List}
 use Prim.Native.Nat.{ℕ}
 use lib.ListN.{length}

@@ -1,5 +1,5 @@
 -- The smallest affine space of a non-empty on set (document 01, "Points and spaces"): its least point, the reduced basis of its directions,
--- and the projection of the on points. What is claimed of the three is `Smallest`.
+-- and the projection of the on points. What is claimed of the three is `Smallest`. Read next: crate `projection`.
 use mathlib.Core.Path.{_≡_}
 use mathlib.Core.Bool.{Bool}
 use mathlib.Core.Logic.{_↔_}

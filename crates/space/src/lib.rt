@@ -1,5 +1,6 @@
-// The spaces of a table (document 01, "Points and spaces"): linear space and degree, completion, reduction equations, restriction, and the
-// smallest affine space. What the words mean is in specs/, the laws about them in proofs/.
+// The spaces of a table (document 01, "Points and spaces"): linear space and degree, and completion. What the words mean is in specs/, which also say
+// what reduction equations, restriction and smallest affine space are (their code is in crate `projection`); the laws about them are in proofs/. Read next:
+// specs/Closure.antt.
 use basis::Basis;
 use table::MAX_POINTS;
 ghost use mathlib.Core.Path.{_≡_};

@@ -1,4 +1,4 @@
--- Flags, one to a point, that mark the points of a list (document 01, "Points and spaces").
+-- Flags, one to a point, that mark the points of a list (document 01, "Points and spaces"). Read next: crate `records`.
 use mathlib.Core.Bool.{Bool, true, false}
 use mathlib.Core.List.{List, [], _∷_}
 use Prim.Native.Nat.{ℕ, _^_}

@@ -1,5 +1,5 @@
 -- The parts in which the report of a table is written: by the basis of the completed function's linear space and the points of its restriction.
--- That they make up the report is `table-parts`.
+-- That they make up the report is `table-parts`. Read next: crate `report`.
 use mathlib.Core.Path.{_≡_}
 use mathlib.Core.Bool.{false, cond}
 use mathlib.Core.List.{List, _++_, map}

@@ -1,4 +1,4 @@
--- Where a walk over the table of bases stands, and each way through a turn of its loop as one law. Read next: Ends.
+-- Where a walk over the table of bases stands, and each way through a turn of its loop as one law.
 use mathlib.Core.Path.{_≡_, refl, sym, ap, ap₂, _∙_, subst}
 use mathlib.Core.Bool.{true, false}
 use mathlib.Core.List.{List, [], _∷_, _++_, map, flatMap, append-assoc, append-nil}

@@ -1,5 +1,5 @@
 -- The call that writes the form of a table: its refusals in their order, its answer, and the bytes of its lent room
--- (document 01, "The written form" and "Refusal numbers"). What form is written is crate `cover`'s `writtenForm`.
+-- (document 01, "The written form" and "Refusal numbers"). What form is written is crate `cover`'s `writtenForm`. Read next: crate `text`.
 use mathlib.Core.List.{List, [], _∷_, _++_}
 use Prim.Native.Nat.{ℕ}
 use lib.ListN.{length}
