@@ -9,8 +9,8 @@ use native.Mathlib.Omega.{arith}
 use lib.ListN.{length, set, length-append}
 use lib.Seq.{sets}
 use Rattle.table.specs.Decision.{front}
-use Rattle.records.specs.Kinds.{variablesKind, onKind, freeKind, encodeRecord, recordLength, encodeEnd}
-use Rattle.records.proofs.Storing.{sets-append, sets-front}
+use Rattle.records.specs.Kinds.{variablesKind, onKind, freeKind, encodeRecord, wordRecordLength, encodeEnd}
+use Rattle.table.proofs.Fill.{sets-append, sets-front}
 use Rattle.stored.specs.Layout.{firstPoint, tableLength}
 use Rattle.stored.specs.Marks.{Mark}
 use Rattle.stored.specs.Encoding.{markKind, encodeMarks, encodeTable}
@@ -92,7 +92,7 @@ unfolding encodeMarks
 encode-append [] b = refl
 encode-append (m ∷ a) b = ap (λ (l : List ℕ). encodeRecord (markKind (m .isOn)) (m .point) ++ l) (encode-append a b)
 
-pub encode-length : (a : List Mark) → length (encodeMarks a) ≡ recordLength * length a
+pub encode-length : (a : List Mark) → length (encodeMarks a) ≡ wordRecordLength * length a
 unfolding encodeMarks
 encode-length [] = refl
 encode-length (m ∷ a) = omega (arith, encode-length a)

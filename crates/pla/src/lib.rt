@@ -16,7 +16,7 @@ ghost use Rattle.pla.specs.Table.{flagMarks, markOf};
 ghost use Rattle.pla.specs.Answer.{endTests, plaAfter, plaAnswer};
 use pla_cubes::Flags;
 use pla_lines::Head;
-use records::RECORD_LENGTH;
+use records::WORD_RECORD_LENGTH;
 use stored::FIRST_POINT;
 
 // The refusal numbers at the end of a text, as in specs/.
@@ -112,11 +112,11 @@ fn write_mark(room: &mut [u8], at: usize, on: bool, free: bool, point: u16) -> u
 {
     if on {
         records::put_record(room, at, records::ON_KIND, point);
-        return at + RECORD_LENGTH;
+        return at + WORD_RECORD_LENGTH;
     }
     if free {
         records::put_record(room, at, records::FREE_KIND, point);
-        return at + RECORD_LENGTH;
+        return at + WORD_RECORD_LENGTH;
     }
     at
 }
@@ -176,7 +176,7 @@ pub fn read_pla(text: &[u8], output: usize, room: &mut [u8]) -> PlaRead
     }
     let flags = reading.flags;
     let count = count_marks(head.kind, head.variables, flags);
-    let length = FIRST_POINT + RECORD_LENGTH * count + RECORD_LENGTH;
+    let length = FIRST_POINT + WORD_RECORD_LENGTH * count + WORD_RECORD_LENGTH;
     if room.len() < length {
         return refused(table::ROOM_FAULT, line);
     }

@@ -1,4 +1,3 @@
--- Laws about the definitions in specs/, and about bytes stored one behind the other.
+-- Laws about the definitions in specs/; read in this order.
 pub mod KindBytes
 pub mod Whole
-pub mod Storing

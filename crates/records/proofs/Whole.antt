@@ -1,4 +1,4 @@
--- Laws of specs.Walks: a whole record is not the end of a walk, and a fault is not what was asked for. Read next: Storing.
+-- Laws of specs.Walks: a whole record is not the end of a walk, and a fault is not what was asked for.
 use mathlib.Core.Path.{_≡_, refl, ap, subst}
 use mathlib.Core.Bool.{Bool, true, false, cond}
 use mathlib.Core.List.{List}

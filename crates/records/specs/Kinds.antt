@@ -69,8 +69,8 @@ abbrev pub encodeRecord : ℕ → ℕ → List ℕ
 encodeRecord kind word = kind ∷ lowByte word ∷ highByte word ∷ []
 
 -- Its length: one byte of kind, two of the number.
-abbrev pub recordLength : ℕ
-recordLength = 3
+abbrev pub wordRecordLength : ℕ
+wordRecordLength = 3
 
 -- The end record with the number of points of a table, or of products of a form.
 abbrev pub encodeEnd : ℕ → List ℕ

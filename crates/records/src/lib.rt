@@ -5,7 +5,7 @@ ghost use mathlib.Core.List.{[], _∷_};
 ghost use Prim.Native.Nat.{_+_, _≤_, _<_};
 ghost use lib.ListN.{length, drop};
 ghost use lib.Seq.{sets};
-ghost use Rattle.records.specs.Kinds.{kindOf, bodyOf, wordOf, lowByte, highByte, encodeRecord, recordLength, encodeEnd};
+ghost use Rattle.records.specs.Kinds.{kindOf, bodyOf, wordOf, lowByte, highByte, encodeRecord, wordRecordLength, encodeEnd};
 ghost use Rattle.records.specs.Walks.{bodyStep, endStep, layoutOf};
 
 // The kind bytes, as the constants of the same names in specs/.
@@ -21,8 +21,8 @@ pub const ON_KIND: u8 = 0x4F;
 
 pub const FREE_KIND: u8 = 0x44;
 
-// The length of a record of a kind and a number of two bytes, as `recordLength` in specs/.
-pub const RECORD_LENGTH: usize = 3;
+// The length of a record of a kind and a number of two bytes, as `wordRecordLength` in specs/.
+pub const WORD_RECORD_LENGTH: usize = 3;
 
 // What a record is, by its first byte.
 pub enum Kind {
@@ -89,7 +89,7 @@ pub fn put_word(room: &mut [u8], at: usize, word: u16)
 
 // A record of a kind and a number of two bytes at a place.
 pub fn put_record(room: &mut [u8], at: usize, kind: u8, word: u16)
-    requires { ⌜ at + recordLength ≤ length (now room) ⌝ }
+    requires { ⌜ at + wordRecordLength ≤ length (now room) ⌝ }
     ensures { λ _. ⌜ now (room .exit) ≡ sets (now (room .entry)) at (encodeRecord kind word) ⌝ }
 {
     room[at] = kind;
@@ -98,7 +98,7 @@ pub fn put_record(room: &mut [u8], at: usize, kind: u8, word: u16)
 
 // The end record at a place, with the number of points or products.
 pub fn put_end(room: &mut [u8], at: usize, count: u16)
-    requires { ⌜ at + recordLength ≤ length (now room) ⌝ }
+    requires { ⌜ at + wordRecordLength ≤ length (now room) ⌝ }
     ensures { λ _. ⌜ now (room .exit) ≡ sets (now (room .entry)) at (encodeEnd count) ⌝ }
 {
     put_record(&mut *room, at, END_KIND, count);

@@ -16,7 +16,7 @@ use Rattle.table.specs.Flags.{maxPoints}
 use Rattle.records.specs.declared.Kind.{Kind}
 use Rattle.records.specs.declared.Kind.the-variants.{Variables, Product, Factor, End, On, Free, Unknown}
 use Rattle.records.specs.declared.Body.the-variants.{Length}
-use Rattle.records.specs.Kinds.{kindOf, wordOf, onKind, recordLength}
+use Rattle.records.specs.Kinds.{kindOf, wordOf, onKind, wordRecordLength}
 use Rattle.records.proofs.KindBytes.{kind-byte}
 use Rattle.records.specs.declared.Walk.{Walk}
 use Rattle.records.specs.declared.Walk.the-variants.{Laid, WrongKind, Missing, WrongVariables, WrongFactor, NotCanonical, WrongCount, After, TooMany}
@@ -200,7 +200,7 @@ laying-at (point {byte} {low} {high} {rest} isOn o q r) (suc i) h =
     rw (marks-point byte low high rest isOn q)
     (laying-at r i (omega (arith, ap length (marks-point byte low high rest isOn q))) ∙ mark-later 3 (byte ∷ low ∷ high ∷ rest) (3 * i) ∙ ap (markAt (byte ∷ low ∷ high ∷ rest)) more)
 
-pub laid-at : {bytes : List ℕ} {all : ℕ} → LaidAs bytes all → (i : ℕ) → i < length (marks bytes) → getD (marks bytes) i noMark ≡ markAt bytes (firstPoint + recordLength * i)
+pub laid-at : {bytes : List ℕ} {all : ℕ} → LaidAs bytes all → (i : ℕ) → i < length (marks bytes) → getD (marks bytes) i noMark ≡ markAt bytes (firstPoint + wordRecordLength * i)
 laid-at (table {byte} {n} {rest} q r) i h = laying-at r i h ∙ mark-later 2 (byte ∷ n ∷ rest) (3 * i)
 
 -- ---- bytes that are laid out
@@ -239,8 +239,8 @@ table-length bytes h = laid-length (laid-as bytes h)
 pub record-inside : (bytes : List ℕ) → LaidOut bytes → (i : ℕ) → i < length (marks bytes) → tableLength (suc i) ≤ length bytes
 record-inside bytes h i l = omega (arith, table-length bytes h)
 
-pub table-mark : (bytes : List ℕ) → LaidOut bytes → (i : ℕ) → i < length (marks bytes) → getD (marks bytes) i noMark ≡ markAt bytes (firstPoint + recordLength * i)
+pub table-mark : (bytes : List ℕ) → LaidOut bytes → (i : ℕ) → i < length (marks bytes) → getD (marks bytes) i noMark ≡ markAt bytes (firstPoint + wordRecordLength * i)
 table-mark bytes h = laid-at (laid-as bytes h)
 
-pub table-point : (bytes : List ℕ) → LaidOut bytes → (i : ℕ) → i < length (marks bytes) → getD (storedPoints bytes) i 0 ≡ markAt bytes (firstPoint + recordLength * i) .point
+pub table-point : (bytes : List ℕ) → LaidOut bytes → (i : ℕ) → i < length (marks bytes) → getD (storedPoints bytes) i 0 ≡ markAt bytes (firstPoint + wordRecordLength * i) .point
 table-point bytes h i l = List·getD-map (λ m. m .point) (marks bytes) i noMark ∙ ap (λ (m : Mark). m .point) (table-mark bytes h i l)

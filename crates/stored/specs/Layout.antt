@@ -6,7 +6,7 @@ use Prim.Native.Nat.{ℕ, zero, suc, _+_, _*_}
 use lib.Dec.{eqb}
 use Rattle.records.specs.declared.Kind.{Kind}
 use Rattle.records.specs.declared.Kind.the-variants.{Variables, Product, Factor, End, On, Free, Unknown}
-use Rattle.records.specs.Kinds.{kindOf, bodyOf, recordLength}
+use Rattle.records.specs.Kinds.{kindOf, bodyOf, wordRecordLength}
 use Rattle.table.specs.Flags.{maxPoints}
 use Rattle.records.specs.declared.Walk.{Walk}
 use Rattle.records.specs.declared.Walk.the-variants.{WrongKind, Missing, After}
@@ -20,7 +20,7 @@ firstPoint = 2
 
 -- The number of bytes of a stored table: 4E and n, a record for each point, 45 and their number (document 01, "The written form").
 abbrev pub tableLength : ℕ → ℕ
-tableLength count = firstPoint + recordLength * count + recordLength
+tableLength count = firstPoint + wordRecordLength * count + wordRecordLength
 
 -- The bytes of the longest stored table, with a record for each point of the most variables.
 abbrev pub longestTable : ℕ

@@ -13,15 +13,17 @@ ghost use Rattle.stored.specs.Reading.{readFault, readAnswer, onAfter, f
 ghost use Rattle.stored.specs.Stored.{LaidOut, storedFault};
 ghost use Rattle.stored.specs.Layout.{firstStep, recordStep, walkFrom, walked};
 use records::Kind;
-use records::RECORD_LENGTH;
 use records::Step;
+use records::WORD_RECORD_LENGTH;
 use records::Walk;
 
 // Where the records of points begin, as `firstPoint` in specs/.
 pub const FIRST_POINT: usize = 2;
 
 // The bytes of the longest stored table, as `longestTable` in specs/.
-pub const LONGEST_TABLE: usize = FIRST_POINT + RECORD_LENGTH * table::MAX_POINTS + RECORD_LENGTH;
+pub const LONGEST_TABLE: usize = FIRST_POINT
+    + WORD_RECORD_LENGTH * table::MAX_POINTS
+    + WORD_RECORD_LENGTH;
 
 // What reading gives: the refusal or 0, n, and how many on and free points there are.
 #[repr(C)]
@@ -100,7 +102,7 @@ fn record_count(bytes: &[u8]) -> usize
     requires { ⌜ LaidOut (now bytes) ⌝ }
     ensures { λ r. ⌜ r ≡ length (marks (now (bytes .entry))) ⌝ }
 {
-    (bytes.len() - FIRST_POINT) / RECORD_LENGTH - 1
+    (bytes.len() - FIRST_POINT) / WORD_RECORD_LENGTH - 1
 }
 
 // The point of a record, by the record's number.
@@ -109,7 +111,7 @@ fn point_at(bytes: &[u8], i: usize) -> u16
     requires { ⌜ i < length (marks (now bytes)) ⌝ }
     ensures { λ r. ⌜ r ≡ getD (storedPoints (now (bytes .entry))) i 0 ⌝ }
 {
-    let place = FIRST_POINT + RECORD_LENGTH * i;
+    let place = FIRST_POINT + WORD_RECORD_LENGTH * i;
     records::word(bytes[place + 1], bytes[place + 2])
 }
 
@@ -174,7 +176,7 @@ fn is_marked(bytes: &[u8], i: usize, on: bool) -> bool
     requires { ⌜ i < length (marks (now bytes)) ⌝ }
     ensures { λ r. ⌜ r ≡ Bool·beq on (getD (marks (now (bytes .entry))) i noMark .isOn) ⌝ }
 {
-    let place = FIRST_POINT + RECORD_LENGTH * i;
+    let place = FIRST_POINT + WORD_RECORD_LENGTH * i;
     on == (bytes[place] == records::ON_KIND)
 }
 

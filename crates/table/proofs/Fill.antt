@@ -1,12 +1,14 @@
--- Lent room filled from the front, one element at each turn of a loop, for any kind of element. Every function that writes a list cites these.
+-- Lent room filled from the front, one element at each turn of a loop or several at growing places, for any kind of element. Every function that
+-- writes a list cites these.
 -- Read next: Selecting.
 use mathlib.Core.Path.{_≡_, sym, ap, _∙_, subst}
 use mathlib.Core.List.{List, [], _∷_, _++_}
 use Prim.Native.Nat.{ℕ, suc, _+_, _-_, _≤_, _<_}
+use native.Mathlib.Nat.{zero-add}
 use native.Mathlib.Numerals.{add-one}
 use native.Mathlib.Omega.{arith}
 use lib.ListN.{length, take, drop, set, getD, length-append, length-take, length-drop}
-use lib.Seq.{take-suc, take-all, take-append-seam, drop-cons, append-snoc, set-append-seam, length-take-le}
+use lib.Seq.{sets, sets-eq, take-suc, take-all, take-append-seam, drop-cons, append-snoc, set-append-seam, length-take-le}
 use Rattle.table.specs.Decision.{front}
 
 -- The element stored behind those that are written already.
@@ -44,3 +46,14 @@ fill-part answer room i h = fill-length (take i answer) room (omega (arith, leng
 -- All of it is written.
 pub fill-all : {A : Type 0} (answer room : List A) (i : ℕ) → length answer ≤ i → front (take i answer) room ≡ front answer room
 fill-all {A} answer room i h = ap (λ (l : List A). front l room) (take-all i answer h)
+
+-- ---- elements stored at growing places
+
+-- Stored behind those that were stored before.
+pub sets-append : {A : Type 0} (room : List A) (at : ℕ) (first second : List A) (next : ℕ) → next ≡ at + length first → sets (sets room at first) next second ≡ sets room at (first ++ second)
+sets-append room at [] second next e = let q : next ≡ at = omega arith in ap (λ (k : ℕ). sets room k second) q
+sets-append room at (v ∷ first) second next e = sets-append (set room at v) (suc at) first second next (omega arith)
+
+-- Stored from the front on.
+pub sets-front : {A : Type 0} (room list : List A) → length list ≤ length room → sets room 0 list ≡ front list room
+sets-front room list h = sets-eq list room 0 (omega arith) ∙ ap (λ (k : ℕ). list ++ drop k room) (zero-add (length list))

@@ -1,26 +1,21 @@
 -- Texts written one after the other (specs.Writing). Every function that writes a text of several parts cites these.
 use mathlib.Core.Path.{_≡_, refl, sym, ap, _∙_, subst}
 use mathlib.Core.List.{List, [], _∷_, _++_}
-use Prim.Native.Nat.{ℕ, suc, _+_, _<_}
+use Prim.Native.Nat.{ℕ, _+_, _<_}
 use native.Mathlib.Nat.{add-zero}
 use native.Mathlib.Numerals.{add-one}
 use native.Mathlib.Omega.{arith}
 use lib.ListN.{length, take, set, getD, length-append}
 use lib.Seq.{sets, length-sets, take-suc, length-take-le}
+use Rattle.table.proofs.Fill.{sets-append}
 use Rattle.text.specs.Writing.{HasRoom, Wrote}
 use Rattle.text.proofs.Pieces.{pieces, pieces-part}
-
--- Two runs of stores, the second after the first, are one.
-pub sets-append : (l : List ℕ) (i : ℕ) (vs ws : List ℕ) → sets l i (vs ++ ws) ≡ sets (sets l i vs) (i + length vs) ws
-sets-append l i [] ws = ap (λ (k : ℕ). sets l k ws) (sym (add-zero i))
-sets-append l i (v ∷ vs) ws =
-    sets-append _ (suc i) vs ws ∙ ap (λ (k : ℕ). sets (sets l i (v ∷ vs)) k ws) (omega arith)
 
 -- One element more of a word.
 pub word-next : (word l : List ℕ) (at i : ℕ) → i < length word → set (sets l at (take i word)) (at + i) (getD word i 0) ≡ sets l at (take (i + 1) word)
 word-next word l at i h =
     let n : length (take i word) ≡ i = length-take-le i word (omega arith) in
-    sym (rw (add-one, take-suc word i 0 h) (sets-append l at (take i word) (getD word i 0 ∷ []) ∙ ap (λ (k : ℕ). set (sets l at (take i word)) (at + k) (getD word i 0)) n))
+    sym (rw (add-one, take-suc word i 0 h) (sym (sets-append l at (take i word) (getD word i 0 ∷ []) _ refl) ∙ ap (λ (k : ℕ). set (sets l at (take i word)) (at + k) (getD word i 0)) n))
 
 -- Nothing is written.
 pub wrote-none : (before : List ℕ) (at : ℕ) → Wrote before at [] before at
@@ -35,7 +30,7 @@ module _ {before : List ℕ} {at : ℕ} {first after : List ℕ} {next : ℕ} wh
   pub wrote-both : {second last : List ℕ} {end : ℕ} → Wrote before at first after next → Wrote after next second last end → Wrote before at (first ++ second) last end
   wrote-both {second} {last} {end} w v = record {
     bytes = v .bytes ∙ ap (λ (b : List ℕ). sets b next second) (w .bytes) ∙ ap (λ (k : ℕ). sets (sets before at first) k second) (w .place)
-        ∙ sym (sets-append before at first second);
+        ∙ sets-append before at first second _ refl;
     place = omega (arith, w .place, v .place, length-append first second);
   }
 

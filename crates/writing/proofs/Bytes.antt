@@ -1,28 +1,17 @@
 -- Bytes stored at growing places: records one behind the other, and their lengths. Read next: Lengths.
 use mathlib.Core.Path.{_≡_, refl, sym, ap, _∙_}
 use mathlib.Core.List.{List, [], _∷_, _++_, append-assoc}
-use Prim.Native.Nat.{ℕ, suc, _+_, _*_, _≤_, _<_}
-use native.Mathlib.Nat.{zero-add}
+use Prim.Native.Nat.{ℕ, _+_, _*_, _<_}
 use native.Mathlib.Numerals.{add-one}
 use native.Mathlib.Omega.{arith}
-use lib.ListN.{length, take, drop, set, getD, length-set, length-append}
-use lib.Seq.{sets, length-sets, sets-eq, take-suc}
+use lib.ListN.{length, take, set, getD, length-set, length-append}
+use lib.Seq.{sets, length-sets, take-suc}
 use Rattle.records.specs.Kinds.{productKind}
-use Rattle.table.specs.Decision.{front}
 use Rattle.product.specs.Product.{Factor, factor}
 use Rattle.form.specs.Encoding.{encodeFactors, encodeProducts}
 use Rattle.writing.specs.Products.{productLength}
 
 -- ---- stores
-
--- Bytes stored behind those that were stored before.
-pub sets-append : (room : List ℕ) (at : ℕ) (first second : List ℕ) (next : ℕ) → next ≡ at + length first → sets (sets room at first) next second ≡ sets room at (first ++ second)
-sets-append room at [] second next e = let q : next ≡ at = omega arith in ap (λ (k : ℕ). sets room k second) q
-sets-append room at (v ∷ first) second next e = sets-append (set room at v) (suc at) first second next (omega arith)
-
--- Bytes stored from the front on.
-pub sets-front : (room bytes : List ℕ) → length bytes ≤ length room → sets room 0 bytes ≡ front bytes room
-sets-front room bytes h = sets-eq bytes room 0 (omega arith) ∙ ap (λ (k : ℕ). bytes ++ drop k room) (zero-add (length bytes))
 
 -- Stores leave the length: two single ones at the front, then bytes behind them.
 pub stored-length : (room : List ℕ) (first second : ℕ) (bytes after : List ℕ) → after ≡ sets (set (set room 0 first) 1 second) 2 bytes → length after ≡ length room

@@ -16,7 +16,8 @@ use Rattle.choice.specs.Chosen.{chosenAt, chosenBy, productsBy, Candidates}
 use Rattle.choice.proofs.Products.{productAt, products-next, products-count}
 use Rattle.factors.proofs.Products.{product-factors}
 use Rattle.writing.specs.Products.{productsLength, formLength}
-use Rattle.writing.proofs.Bytes.{sets-append, sets-front, products-append, product-bytes}
+use Rattle.table.proofs.Fill.{sets-append, sets-front}
+use Rattle.writing.proofs.Bytes.{products-append, product-bytes}
 
 -- ---- the lengths alone
 

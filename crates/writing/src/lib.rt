@@ -8,6 +8,7 @@ use cubes::MAX_LISTED;
 use factors::FactorList;
 use form::FACTOR_LENGTH;
 use form::FIRST_PRODUCT;
+use records::WORD_RECORD_LENGTH;
 use table::MAX_POINTS;
 use table::ROOM_FAULT;
 use table::SIZE_FAULT;
@@ -29,9 +30,6 @@ ghost use Rattle.choice.specs.Chosen.{productsBy, Candidates, Chose};
 ghost use Rattle.factors.specs.Factors.{productIn, IsProduct};
 ghost use Rattle.writing.specs.Products.{productLength, productsLength, formLength};
 ghost use Rattle.writing.specs.Writing.{writeRefused, writeAnswer, writeAfter};
-
-// The length of the end record, its kind included.
-const END_LENGTH: usize = 3;
 
 // What writing the form of a table gives: the refusal or 0, how many bytes are written, and how many products the form has.
 #[repr(C)]
@@ -90,7 +88,7 @@ fn form_length(choice: Choice, m: usize) -> usize
         length += 1 + FACTOR_LENGTH * (m - degrees[i]);
         i += 1;
     }
-    length + END_LENGTH
+    length + WORD_RECORD_LENGTH
 }
 
 // The products of a choice, with the equations put in, behind the first record. The place behind them is returned.

@@ -13,7 +13,8 @@ use Rattle.form.specs.Encoding.{encodeFactors, encodeProducts}
 use Rattle.factors.specs.declared.FactorList.{FactorList}
 use Rattle.factors.specs.Factors.{productIn, IsProduct}
 use Rattle.factors.proofs.Products.{constants-len, masks-len, masks-few, factor-at, constant-binary}
-use Rattle.writing.proofs.Bytes.{sets-append, factors-next, factors-length}
+use Rattle.table.proofs.Fill.{sets-append}
+use Rattle.writing.proofs.Bytes.{factors-next, factors-length}
 use Rattle.writing.proofs.put_product.Statement.{statement}
 use Rattle.writing.proofs.put_product.Tie as tie
 

@@ -18,7 +18,7 @@ use Rattle.factors.specs.declared.FactorList.{FactorList}
 use Rattle.factors.specs.Factors.{factorsOf, productIn, IsProduct}
 use Rattle.factors.proofs.Products.{product-back, is-product, product-binary}
 use Rattle.writing.specs.Products.{productLength, productsLength, formLength}
-use Rattle.writing.proofs.Bytes.{sets-append}
+use Rattle.table.proofs.Fill.{sets-append}
 use Rattle.writing.proofs.Lengths.{lengths-grow, bytes-next, product-length-at, products-length}
 use Rattle.writing.proofs.put_products.Statement.{statement}
 use Rattle.writing.proofs.put_products.Tie as tie
