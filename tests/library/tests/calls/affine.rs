@@ -2,6 +2,7 @@
 //! 01, section "Points and spaces".
 
 use crate::lent::{with_each_room, Lent};
+use crate::lent_calls;
 use crate::lists;
 use crate::tables;
 use crate::tally::Tally;
@@ -11,7 +12,7 @@ use reference::numbers::{AffineNumbers, ShortList};
 use reference::refusal::SHORT_ROOM;
 
 /// The numbers of the call in the reference's words.
-fn numbers(found: &Affine) -> AffineNumbers {
+pub fn numbers(found: &Affine) -> AffineNumbers {
     AffineNumbers {
         refusal: found.refusal,
         least: found.least,
@@ -84,7 +85,7 @@ fn faulty_lists() {
 
 #[test]
 fn order_of_refusals() {
-    let refusal = |n, on: &[u16]| library::affine(n, on, &mut []).refusal;
+    let refusal = |n, on: &[u16]| lent_calls::affine(n, on, &mut []).refusal;
     assert_eq!(refusal(0, &[]), 1);
     assert_eq!(refusal(13, &[]), 1);
     assert_eq!(refusal(2, &[4, 4]), 2);

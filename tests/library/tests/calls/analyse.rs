@@ -2,6 +2,7 @@
 //! "Points and spaces".
 
 use crate::lent::{with_each_room, Lent};
+use crate::lent_calls;
 use crate::lists;
 use crate::tables;
 use crate::tally::Tally;
@@ -19,7 +20,7 @@ fn short_list(list: &library::ShortList) -> ShortList {
 }
 
 /// The numbers of the call in the reference's words.
-fn numbers(found: &Analysis) -> AnalysisNumbers {
+pub fn numbers(found: &Analysis) -> AnalysisNumbers {
     AnalysisNumbers {
         refusal: found.refusal,
         degree: found.degree,
@@ -88,7 +89,7 @@ fn faulty_lists() {
     }
     for (n, on, free, refusal) in lists::ORDERED {
         compare(&mut tally, n, on, free);
-        let found = library::analyse(n, on, free, &mut []);
+        let found = lent_calls::analyse(n, on, free, &mut []);
         assert_eq!(found.refusal, refusal, "n {n}, on {on:?}, free {free:?}");
     }
     tally.finish(&[0, 1, 2, 3, 4, 7]);

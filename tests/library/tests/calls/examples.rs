@@ -2,6 +2,7 @@
 //! document 01 prints. Follows document 01, section "Table of proved examples".
 
 use crate::forms;
+use crate::lent_calls;
 use crate::stored;
 use library::{Basis, Listed, ShortList};
 
@@ -54,16 +55,16 @@ fn listed(next: u64, passed: u64, records: usize) -> Listed {
 /// Degree and restriction of a table without free points.
 fn degree_and_restriction(n: usize, on: &[u16]) -> (usize, Vec<u16>) {
     let mut room = [0; 4096];
-    let found = library::analyse(n, on, &[], &mut room);
+    let found = lent_calls::analyse(n, on, &[], &mut room);
     assert_eq!(found.refusal, 0);
-    assert_eq!(library::linear_space(n, on).degree, found.degree);
+    assert_eq!(lent_calls::linear_space(n, on).degree, found.degree);
     (found.degree, room[..found.count].to_vec())
 }
 
 /// The form written for a table, which must be true at these points alone.
 fn form_true_at(n: usize, on: &[u16], free: &[u16], points: &[u16]) -> Vec<u8> {
     let mut room = [0; 1307];
-    let found = library::write_form(n, on, free, &mut room);
+    let found = lent_calls::write_form(n, on, free, &mut room);
     assert_eq!(found.refusal, 0);
     let form = room[..found.length].to_vec();
     assert_eq!(forms::points_read(n, &form), points);
@@ -93,7 +94,7 @@ fn p3_both_points() {
 #[test]
 fn p4_parity_of_three() {
     let mut room = [9; 3];
-    let found = library::analyse(3, &[1, 2, 4, 7], &[], &mut room);
+    let found = lent_calls::analyse(3, &[1, 2, 4, 7], &[], &mut room);
     assert_eq!((found.refusal, found.degree), (0, 2));
     assert_eq!(found.basis, basis(&[3, 5]));
     assert_eq!(found.canonical, list(&[1, 2]));
@@ -101,7 +102,7 @@ fn p4_parity_of_three() {
     assert_eq!(found.count, 1);
     assert_eq!(room, [1, 9, 9]);
     let mut room = [9; 9];
-    let found = library::list_primes(3, &[1, 2, 4, 7], &[], 0, u64::MAX, &mut room);
+    let found = lent_calls::list_primes(3, &[1, 2, 4, 7], &[], 0, u64::MAX, &mut room);
     assert_eq!(found, listed(51, 51, 1));
     assert_eq!(room, [2, 1, 3, 5, 0, 0, 0, 0, 9]);
     let form = [0x4E, 3, 0x50, 0x58, 1, 7, 0, 0x45, 1, 0];
@@ -110,11 +111,11 @@ fn p4_parity_of_three() {
 
 #[test]
 fn p5_four_variables() {
-    let found = library::linear_space(4, &P5_ON);
+    let found = lent_calls::linear_space(4, &P5_ON);
     assert_eq!((found.refusal, found.degree), (0, 1));
     assert_eq!(found.basis, basis(&[3]));
     let mut room = [9; 6];
-    let found = library::analyse(4, &P5_ON, &[], &mut room);
+    let found = lent_calls::analyse(4, &P5_ON, &[], &mut room);
     assert_eq!((found.refusal, found.degree), (0, 1));
     assert_eq!(found.basis, basis(&[3]));
     assert_eq!(found.canonical, list(&[3]));
@@ -129,7 +130,7 @@ fn p5_form_and_its_room() {
     for length in 0..=P5_FORM.len() + 1 {
         let fits = length >= P5_FORM.len();
         let mut room = vec![9; length];
-        let found = library::write_form(4, &P5_ON, &[], &mut room);
+        let found = lent_calls::write_form(4, &P5_ON, &[], &mut room);
         let numbers = (found.refusal, found.length, found.products);
         assert_eq!(numbers, if fits { (0, 19, 2) } else { (7, 0, 0) });
         let (front, rest) = room.split_at(found.length);
@@ -142,7 +143,7 @@ fn p5_form_and_its_room() {
 fn p5_report() {
     let bytes = stored::bytes_of(&(4, P5_ON.to_vec(), vec![]));
     let mut room = vec![9; P5_REPORT.len() + 1];
-    let found = library::report(&bytes, &mut room);
+    let found = lent_calls::report(&bytes, &mut room);
     assert_eq!((found.refusal, found.length), (0, P5_REPORT.len()));
     assert_eq!(room, [P5_REPORT.as_bytes(), &[9]].concat());
 }
@@ -150,7 +151,7 @@ fn p5_report() {
 #[test]
 fn p6_five_primes() {
     let mut room = [9; 41];
-    let found = library::list_primes(3, &[2, 3, 5, 6, 7], &[], 0, u64::MAX, &mut room);
+    let found = lent_calls::list_primes(3, &[2, 3, 5, 6, 7], &[], 0, u64::MAX, &mut room);
     assert_eq!(found, listed(51, 51, 5));
     let records: [[u8; 8]; 5] = [
         [2, 2, 1, 4, 0, 0, 0, 0],
@@ -170,7 +171,7 @@ fn p6_five_primes() {
 #[test]
 fn p7_smallest_affine_space() {
     let mut room = [9; 6];
-    let found = library::affine(4, &[2, 4, 6, 11, 13], &mut room);
+    let found = lent_calls::affine(4, &[2, 4, 6, 11, 13], &mut room);
     assert_eq!((found.refusal, found.least, found.dimension), (0, 0, 3));
     assert_eq!(found.basis, basis(&[2, 4, 9]));
     assert_eq!(found.count, 5);
@@ -180,7 +181,7 @@ fn p7_smallest_affine_space() {
 #[test]
 fn p8_equal_degrees() {
     let mut room = [9; 3];
-    let found = library::complete(2, &[0], &[1, 2], &mut room);
+    let found = lent_calls::complete(2, &[0], &[1, 2], &mut room);
     assert_eq!((found.refusal, found.degree, found.count), (0, 0, 1));
     assert_eq!((found.low, found.high), (0, 0));
     assert_eq!(room, [0, 9, 9]);
@@ -191,7 +192,7 @@ fn p8_equal_degrees() {
 #[test]
 fn p9_no_prime_and_the_end() {
     let mut room = [9; 8];
-    let mut list = |place| library::list_primes(2, &[], &[0], place, u64::MAX, &mut room);
+    let mut list = |place| lent_calls::list_primes(2, &[], &[0], place, u64::MAX, &mut room);
     assert_eq!(list(0), listed(11, 11, 0));
     assert_eq!(list(11), listed(11, 0, 0));
     let refused = Listed {

@@ -1,14 +1,14 @@
-//! Every call with every lent slice right before a page that may not be touched,
-//! and again right after one: tables and bytes, good and faulty, with rooms of
-//! every kind. An access outside a slice, or a write to a list, stops the test.
-//! Numbers and rooms are compared with those of the same call in plain memory,
-//! which the other tests compare with the reference. Follows document 01, section
+//! Every call on the same input twice: with every lent slice right before a page
+//! that may not be touched, and with every one right behind such a page, for
+//! tables and bytes, good and faulty, and rooms of every kind. The other tests
+//! have one of the two for each slice. Numbers and rooms must be the same; the
+//! other tests compare them with the reference. Follows document 01, section
 //! "Refusal numbers".
 
 use crate::forms;
-use crate::lent::{room_lengths, Entry};
+use crate::lent::{room_lengths, Entry, Guard, Lent};
+use crate::lent_calls;
 use crate::lists;
-use crate::pages::{Guard, Guarded};
 use crate::stored;
 use crate::tables;
 use glospruma::{REPORT_ROOM, WRITTEN_ROOM};
@@ -16,26 +16,36 @@ use reference::generate::Generator;
 use reference::table::Table;
 use std::fmt::Debug;
 
-/// Makes a call in guarded and in plain room of so many entries, and compares.
+const SIDES: [Guard; 2] = [Guard::Behind, Guard::Before];
+
+/// What a room holds after a call; memory beside it must be as lent.
+fn contents_of<E: Entry>(room: &Lent<E>) -> Vec<E> {
+    let contents = room.part().to_vec();
+    room.assert_front(&contents);
+    contents
+}
+
+/// Makes a call with room of so many entries at either side, and compares; `call`
+/// is given the side, so that it lends its lists there too.
 fn in_room<E: Entry, N: PartialEq + Debug>(
-    guard: Guard,
     length: usize,
-    call: &mut impl FnMut(&mut [E]) -> N,
+    call: &mut impl FnMut(usize, &mut [E]) -> N,
 ) {
-    let mut room = Guarded::room(guard, length);
-    let mut plain = room.part().to_vec();
-    assert_eq!(call(room.part_mut()), call(&mut plain));
-    assert_eq!(room.part(), plain);
+    let [behind, before] = [0, 1].map(|side| {
+        let mut room = Lent::room_at(SIDES[side], length);
+        let numbers = call(side, room.part_mut());
+        (numbers, contents_of(&room))
+    });
+    assert_eq!(behind, before);
 }
 
 /// Makes a call with room of each length to try for an answer of so many entries.
 fn in_rooms<E: Entry, N: PartialEq + Debug>(
-    guard: Guard,
     answer: usize,
-    mut call: impl FnMut(&mut [E]) -> N,
+    mut call: impl FnMut(usize, &mut [E]) -> N,
 ) {
     for length in room_lengths(answer) {
-        in_room(guard, length, &mut call);
+        in_room(length, &mut call);
     }
 }
 
@@ -53,50 +63,59 @@ const LISTINGS: [(u64, u64); 8] = [
 ];
 
 /// Every call that takes a table.
-fn table_calls(guard: Guard, (n, on, free): &Table) {
+fn table_calls((n, on, free): &Table) {
     let n = *n;
-    let (on, free) = (Guarded::holding(guard, on), Guarded::holding(guard, free));
-    let (on, free) = (on.part(), free.part());
-    let mut points = [0; 4096];
-    let mut bytes = [0; WRITTEN_ROOM];
-    let plain = on.to_vec();
-    let space = library::linear_space(n, on);
-    assert_eq!(space, library::linear_space(n, &plain));
-    let count = library::complete(n, on, free, &mut points).count;
-    in_rooms(guard, count, |room| library::complete(n, on, free, room));
-    let count = library::analyse(n, on, free, &mut points).count;
-    in_rooms(guard, count, |room| library::analyse(n, on, free, room));
-    let count = library::affine(n, on, &mut points).count;
-    in_rooms(guard, count, |room| library::affine(n, on, room));
-    let length = library::write_form(n, on, free, &mut bytes).length;
-    in_rooms(guard, length, |room| library::write_form(n, on, free, room));
+    let lent = SIDES.map(|guard| [on, free].map(|list| Lent::holding_at(guard, list)));
+    let on = |side: usize| lent[side][0].part();
+    let free = |side: usize| lent[side][1].part();
+    assert_eq!(
+        library::linear_space(n, on(0)),
+        library::linear_space(n, on(1))
+    );
+    let (mut points, mut bytes) = ([0; 4096], [0; WRITTEN_ROOM]);
+    let count = lent_calls::complete(n, on(0), free(0), &mut points).count;
+    in_rooms(count, |side, room| {
+        library::complete(n, on(side), free(side), room)
+    });
+    let count = lent_calls::analyse(n, on(0), free(0), &mut points).count;
+    in_rooms(count, |side, room| {
+        library::analyse(n, on(side), free(side), room)
+    });
+    let count = lent_calls::affine(n, on(0), &mut points).count;
+    in_rooms(count, |side, room| library::affine(n, on(side), room));
+    let length = lent_calls::write_form(n, on(0), free(0), &mut bytes).length;
+    in_rooms(length, |side, room| {
+        library::write_form(n, on(side), free(side), room)
+    });
     for (place, allowance) in LISTINGS {
         for length in [0, 7, 8, 9, 40, 8192] {
-            in_room(guard, length, &mut |room| {
-                library::list_primes(n, on, free, place, allowance, room)
+            in_room(length, &mut |side, room| {
+                library::list_primes(n, on(side), free(side), place, allowance, room)
             });
         }
     }
 }
 
 /// Every call that takes bytes.
-fn byte_calls(guard: Guard, bytes: &[u8]) {
-    let lent = Guarded::holding(guard, bytes);
-    let bytes = lent.part();
-    let mut points = [0; 4096];
+fn byte_calls(bytes: &[u8]) {
+    let lent = SIDES.map(|guard| Lent::holding_at(guard, bytes));
+    let bytes = |side: usize| lent[side].part();
+    let (mut points, mut others) = ([0; 4096], [0; 4096]);
     let mut text = vec![0; REPORT_ROOM];
-    let count = library::form_points(bytes, &mut points).count;
-    in_rooms(guard, count, |room| library::form_points(bytes, room));
-    let length = library::form_rewrite(bytes, &mut text).length;
-    in_rooms(guard, length, |room| library::form_rewrite(bytes, room));
-    let length = library::report(bytes, &mut text).length;
-    in_rooms(guard, length, |room| library::report(bytes, room));
-    let mut others = [0; 4096];
-    let read = library::read_table(bytes, &mut points, &mut others);
+    let count = lent_calls::form_points(bytes(0), &mut points).count;
+    in_rooms(count, |side, room| library::form_points(bytes(side), room));
+    let length = lent_calls::form_rewrite(bytes(0), &mut text).length;
+    in_rooms(length, |side, room| {
+        library::form_rewrite(bytes(side), room)
+    });
+    let length = lent_calls::report(bytes(0), &mut text).length;
+    in_rooms(length, |side, room| library::report(bytes(side), room));
+    let read = lent_calls::read_table(bytes(0), &mut points, &mut others);
     for free_length in room_lengths(read.free_count) {
-        let mut free = Guarded::room(guard, free_length);
-        in_rooms(guard, read.on_count, |room| {
-            library::read_table(bytes, room, free.part_mut())
+        in_rooms(read.on_count, |side, room| {
+            let mut free = Lent::room_at(SIDES[side], free_length);
+            let found = library::read_table(bytes(side), room, free.part_mut());
+            (found, contents_of(&free))
         });
     }
 }
@@ -126,26 +145,21 @@ pub fn some_bytes() -> impl Iterator<Item = Vec<u8>> {
     all.chain(faulty.step_by(301)).chain(bounds)
 }
 
-/// Makes the calls with each guard, and prints on how many inputs.
-fn with_each_guard<I>(title: &str, inputs: impl Iterator<Item = I>, calls: fn(Guard, &I)) {
-    let mut count = 0;
-    for input in inputs {
-        calls(Guard::Behind, &input);
-        calls(Guard::Before, &input);
-        count += 1;
-    }
-    println!("{title} beside guard pages: {count}");
+/// Makes the calls, and prints on how many inputs.
+fn on_each<I>(title: &str, inputs: impl Iterator<Item = I>, calls: impl Fn(&I)) {
+    let count = inputs.map(|input| calls(&input)).count();
+    println!("{title} beside guard pages on either side: {count}");
     assert!(count >= 500, "too few inputs");
 }
 
 #[test]
-fn tables_beside_guard_pages() {
-    with_each_guard("tables", some_tables(), table_calls);
+fn tables_on_either_side() {
+    on_each("tables", some_tables(), table_calls);
 }
 
 #[test]
-fn bytes_beside_guard_pages() {
-    with_each_guard("stored tables and forms", some_bytes(), |guard, bytes| {
-        byte_calls(guard, bytes)
+fn bytes_on_either_side() {
+    on_each("stored tables and forms", some_bytes(), |bytes| {
+        byte_calls(bytes)
     });
 }

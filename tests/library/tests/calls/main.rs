@@ -13,6 +13,7 @@
 
 mod forms;
 mod lent;
+mod lent_calls;
 mod lists;
 mod pages;
 mod stored;

@@ -1,16 +1,16 @@
-//! Lent memory beside a page that may not be touched: right before one, so that
-//! an access beyond the end stops the test, or right after one, so that an access
-//! before the start does. Memory for a call to read may not be written.
-//! Follows document 01, section "Refusal numbers".
+//! Memory between two pages that may not be touched: an access beyond either end
+//! of it stops the test. It stands at two addresses, where it may be written and
+//! where it may only be read. Mapping takes long, so that a thread keeps what it
+//! has mapped and uses it again. Follows document 01, section "Refusal numbers".
 
-use crate::lent::Entry;
-use reference::generate::Generator;
-use std::ffi::{c_int, c_void};
-use std::mem::size_of_val;
+use std::cell::RefCell;
+use std::ffi::{c_char, c_int, c_uint, c_void};
 use std::ptr::null_mut;
-use std::slice;
 
 extern "C" {
+    fn memfd_create(name: *const c_char, flags: c_uint) -> c_int;
+    fn ftruncate(file: c_int, length: i64) -> c_int;
+    fn close(file: c_int) -> c_int;
     fn mmap(
         address: *mut c_void,
         length: usize,
@@ -19,7 +19,6 @@ extern "C" {
         file: c_int,
         offset: i64,
     ) -> *mut c_void;
-    fn mprotect(address: *mut c_void, length: usize, protection: c_int) -> c_int;
     fn munmap(address: *mut c_void, length: usize) -> c_int;
 }
 
@@ -29,86 +28,118 @@ const NO_ACCESS: c_int = 0;
 const READ: c_int = 1;
 const READ_AND_WRITE: c_int = 3;
 const PRIVATE_AND_ANONYMOUS: c_int = 0x22;
+const SHARED_AND_FIXED: c_int = 0x11;
 
-/// Where the guard page stands that the lent part touches.
-#[derive(Clone, Copy, Debug, PartialEq)]
-pub enum Guard {
-    Behind,
-    Before,
-}
-
-/// Lent memory that touches a guard page; there is one on its other side too.
-pub struct Guarded<T> {
+/// The memory at one of its addresses, with its guard pages.
+struct View {
     mapping: *mut c_void,
     mapped: usize,
-    start: *mut T,
-    length: usize,
 }
 
-impl<T: Entry> Guarded<T> {
-    /// Memory that holds the given entries and may be written.
-    pub fn room_with(guard: Guard, entries: &[T]) -> Guarded<T> {
-        let bytes = size_of_val(entries);
-        let inner = bytes.next_multiple_of(PAGE).max(PAGE);
-        let mapped = inner + 2 * PAGE;
-        // SAFETY: a new mapping that nothing else uses; all places are inside it.
+impl View {
+    fn new(file: c_int, bytes: usize, protection: c_int) -> View {
+        let mapped = bytes + 2 * PAGE;
+        // SAFETY: a new mapping that nothing else uses, and the file put in its
+        // middle.
         unsafe {
             let mapping = mmap(null_mut(), mapped, NO_ACCESS, PRIVATE_AND_ANONYMOUS, -1, 0);
-            assert_ne!(mapping as isize, -1, "memory for {mapped} bytes");
-            let first = mapping.cast::<u8>().add(PAGE);
-            assert_eq!(mprotect(first.cast(), inner, READ_AND_WRITE), 0);
-            let skipped = if guard == Guard::Behind {
-                inner - bytes
-            } else {
-                0
-            };
-            let start = first.add(skipped).cast::<T>();
-            start.copy_from_nonoverlapping(entries.as_ptr(), entries.len());
-            Guarded {
-                mapping,
-                mapped,
-                start,
-                length: entries.len(),
-            }
+            assert_ne!(mapping as isize, -1, "{mapped} bytes of addresses");
+            let view = View { mapping, mapped };
+            let first = view.first().cast();
+            let middle = mmap(first, bytes, protection, SHARED_AND_FIXED, file, 0);
+            assert_eq!(middle, first, "{bytes} bytes of memory");
+            view
         }
     }
 
-    /// Room of so many entries, filled with a pattern.
-    pub fn room(guard: Guard, length: usize) -> Guarded<T> {
-        let mut generator = Generator::new(length as u64);
-        let entries = (0..length).map(|_| T::pattern(generator.next_number()));
-        Guarded::room_with(guard, &entries.collect::<Vec<T>>())
-    }
-
-    /// Memory that holds the given entries for a call to read.
-    pub fn holding(guard: Guard, entries: &[T]) -> Guarded<T> {
-        let lent = Guarded::room_with(guard, entries);
-        // SAFETY: the pages between the two guards are this mapping's own.
-        let status = unsafe {
-            let first = lent.mapping.cast::<u8>().add(PAGE);
-            mprotect(first.cast(), lent.mapped - 2 * PAGE, READ)
-        };
-        assert_eq!(status, 0);
-        lent
-    }
-
-    /// The lent part.
-    pub fn part(&self) -> &[T] {
-        // SAFETY: so many entries stand there and can be read.
-        unsafe { slice::from_raw_parts(self.start, self.length) }
-    }
-
-    /// The lent part of a room, to be written.
-    pub fn part_mut(&mut self) -> &mut [T] {
-        // SAFETY: so many entries stand there, and nothing else refers to them.
-        unsafe { slice::from_raw_parts_mut(self.start, self.length) }
+    /// The first byte behind the first guard page.
+    fn first(&self) -> *mut u8 {
+        self.mapping.cast::<u8>().wrapping_add(PAGE)
     }
 }
 
-impl<T> Drop for Guarded<T> {
+impl Drop for View {
     fn drop(&mut self) {
-        // SAFETY: the mapping is this value's own, and its part isn't borrowed.
+        // SAFETY: the mapping is this value's own, and nothing refers to it.
         let status = unsafe { munmap(self.mapping, self.mapped) };
         assert_eq!(status, 0);
+    }
+}
+
+/// The memory at both addresses.
+struct Views {
+    pages: usize,
+    written: View,
+    read: View,
+}
+
+impl Views {
+    fn new(pages: usize) -> Views {
+        let bytes = pages * PAGE;
+        // SAFETY: a new file without a name, which the mappings alone keep.
+        unsafe {
+            let file = memfd_create(c"lent".as_ptr(), 0);
+            assert!(file >= 0, "a file in memory");
+            assert_eq!(ftruncate(file, bytes as i64), 0, "{bytes} bytes");
+            let views = Views {
+                pages,
+                written: View::new(file, bytes, READ_AND_WRITE),
+                read: View::new(file, bytes, READ),
+            };
+            assert_eq!(close(file), 0);
+            views
+        }
+    }
+}
+
+thread_local! {
+    /// What this thread has mapped and doesn't use, by the number of pages.
+    static KEPT: RefCell<Vec<Vec<Views>>> = const { RefCell::new(Vec::new()) };
+}
+
+/// Memory between two guard pages, kept for the next one when it is dropped.
+pub struct Pages {
+    views: Option<Views>,
+}
+
+impl Pages {
+    /// At least so many bytes, with whatever stood in them.
+    pub fn new(bytes: usize) -> Pages {
+        let pages = bytes.div_ceil(PAGE).max(1);
+        let kept = KEPT.with_borrow_mut(|kept| kept.get_mut(pages).and_then(Vec::pop));
+        Pages {
+            views: Some(kept.unwrap_or_else(|| Views::new(pages))),
+        }
+    }
+
+    fn views(&self) -> &Views {
+        self.views.as_ref().expect("given back by drop alone")
+    }
+
+    /// The number of bytes between the guard pages.
+    pub fn bytes(&self) -> usize {
+        self.views().pages * PAGE
+    }
+
+    /// The first byte, where it may be written.
+    pub fn written(&self) -> *mut u8 {
+        self.views().written.first()
+    }
+
+    /// The first byte, where it may only be read.
+    pub fn read(&self) -> *mut u8 {
+        self.views().read.first()
+    }
+}
+
+impl Drop for Pages {
+    fn drop(&mut self) {
+        if let Some(views) = self.views.take() {
+            KEPT.with_borrow_mut(|kept| {
+                let lists = kept.len().max(views.pages + 1);
+                kept.resize_with(lists, Vec::new);
+                kept[views.pages].push(views);
+            });
+        }
     }
 }

@@ -1,15 +1,16 @@
 //! Degrees of well-known functions, as published for them. Follows document 01,
 //! section "Points and spaces".
 
+use crate::lent_calls;
 use reference::generate;
 use reference::table::Table;
 
 /// The degree of a complete function, on which three calls must agree.
 fn degree((n, on, _): &Table) -> usize {
-    let space = library::linear_space(*n, on);
+    let space = lent_calls::linear_space(*n, on);
     let mut room = vec![0; 4096];
-    let completion = library::complete(*n, on, &[], &mut room);
-    let analysis = library::analyse(*n, on, &[], &mut room);
+    let completion = lent_calls::complete(*n, on, &[], &mut room);
+    let analysis = lent_calls::analyse(*n, on, &[], &mut room);
     let refusals = (space.refusal, completion.refusal, analysis.refusal);
     assert_eq!(refusals, (0, 0, 0));
     let degrees = [completion.low, completion.high, analysis.degree];

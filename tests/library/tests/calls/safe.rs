@@ -4,6 +4,7 @@
 //! numbers".
 
 use crate::guarded::{some_bytes, some_tables};
+use crate::lent_calls;
 use glospruma::{Refusal, RECORD_LENGTH};
 use library::{Affine, Analysis, Completion, FormPoints, FormRewrite, FormWritten};
 use library::{LinearSpace, Listed, Report, TableRead};
@@ -39,7 +40,7 @@ macro_rules! refused {
 
 fn spaces((n, on, free): &Table, length: usize) {
     let (mut room, mut other) = (vec![7; length], vec![7; length]);
-    let raw = library::linear_space(*n, on);
+    let raw = lent_calls::linear_space(*n, on);
     let linear = |found: glospruma::LinearSpace| LinearSpace {
         refusal: 0,
         degree: found.degree,
@@ -47,7 +48,7 @@ fn spaces((n, on, free): &Table, length: usize) {
     };
     let safe = glospruma::linear_space(*n, on);
     compare(raw, safe, linear, refused!(LinearSpace));
-    let raw = library::complete(*n, on, free, &mut room);
+    let raw = lent_calls::complete(*n, on, free, &mut room);
     let completed = |found: glospruma::Completion| {
         assert_eq!(found.points, &room[..raw.count]);
         Completion {
@@ -60,7 +61,7 @@ fn spaces((n, on, free): &Table, length: usize) {
     };
     let safe = glospruma::complete(*n, on, free, &mut other);
     compare(raw, safe, completed, refused!(Completion));
-    let raw = library::analyse(*n, on, free, &mut room);
+    let raw = lent_calls::analyse(*n, on, free, &mut room);
     let analysed = |found: glospruma::Analysis| {
         assert_eq!(found.restriction, &room[..raw.count]);
         Analysis {
@@ -74,7 +75,7 @@ fn spaces((n, on, free): &Table, length: usize) {
     };
     let safe = glospruma::analyse(*n, on, free, &mut other);
     compare(raw, safe, analysed, refused!(Analysis));
-    let raw = library::affine(*n, on, &mut room);
+    let raw = lent_calls::affine(*n, on, &mut room);
     let smallest = |found: glospruma::AffineSpace| {
         assert_eq!(found.projection, &room[..raw.count]);
         Affine {
@@ -93,7 +94,7 @@ fn spaces((n, on, free): &Table, length: usize) {
 fn primes_and_form((n, on, free): &Table, length: usize) {
     let (mut room, mut other) = (vec![7; length], vec![7; length]);
     for (place, allowance) in [(0, u64::MAX), (3, 40), (60, 1)] {
-        let raw = library::list_primes(*n, on, free, place, allowance, &mut room);
+        let raw = lent_calls::list_primes(*n, on, free, place, allowance, &mut room);
         let listed = |found: glospruma::Listing| {
             assert_eq!(found.records, &room[..RECORD_LENGTH * raw.records]);
             for prime in found.primes() {
@@ -109,7 +110,7 @@ fn primes_and_form((n, on, free): &Table, length: usize) {
         let safe = glospruma::list_primes(*n, on, free, place, allowance, &mut other);
         compare(raw, safe, listed, refused!(Listed));
     }
-    let raw = library::write_form(*n, on, free, &mut room);
+    let raw = lent_calls::write_form(*n, on, free, &mut room);
     let written = |found: glospruma::WrittenForm| {
         assert_eq!(found.bytes, &room[..raw.length]);
         FormWritten {
@@ -126,7 +127,7 @@ fn primes_and_form((n, on, free): &Table, length: usize) {
 fn stored_table(bytes: &[u8], length: usize) {
     let (mut on, mut free) = (vec![7; length], vec![7; length]);
     let (mut other_on, mut other_free) = (on.clone(), free.clone());
-    let raw = library::read_table(bytes, &mut on, &mut free);
+    let raw = lent_calls::read_table(bytes, &mut on, &mut free);
     let read = |found: glospruma::Table| {
         assert_eq!(found.on, &on[..raw.on_count]);
         assert_eq!(found.free, &free[..raw.free_count]);
@@ -144,7 +145,7 @@ fn stored_table(bytes: &[u8], length: usize) {
 
 fn form_and_report(bytes: &[u8], length: usize) {
     let (mut points, mut other_points) = (vec![7; length], vec![7; length]);
-    let raw = library::form_points(bytes, &mut points);
+    let raw = lent_calls::form_points(bytes, &mut points);
     let read = |found: glospruma::FormPoints| {
         assert_eq!(found.points, &points[..raw.count]);
         FormPoints {
@@ -156,7 +157,7 @@ fn form_and_report(bytes: &[u8], length: usize) {
     let safe = glospruma::form_points(bytes, &mut other_points);
     compare(raw, safe, read, refused!(FormPoints));
     let (mut room, mut other) = (vec![7; length], vec![7; length]);
-    let raw = library::form_rewrite(bytes, &mut room);
+    let raw = lent_calls::form_rewrite(bytes, &mut room);
     let rewritten = |found: glospruma::RewrittenForm| {
         assert_eq!(found.bytes, &room[..raw.length]);
         FormRewrite {
@@ -166,7 +167,7 @@ fn form_and_report(bytes: &[u8], length: usize) {
     };
     let safe = glospruma::form_rewrite(bytes, &mut other);
     compare(raw, safe, rewritten, refused!(FormRewrite));
-    let raw = library::report(bytes, &mut room);
+    let raw = lent_calls::report(bytes, &mut room);
     let reported = |found: glospruma::Report| {
         assert_eq!(found.text.as_bytes(), &room[..raw.length]);
         Report {

@@ -2,6 +2,7 @@
 //! them whole, and the reader with the analysis in all lines but those of the
 //! products. Follows document 01, section "The printed report".
 
+use crate::lent_calls;
 use crate::report::compare_text;
 use crate::tally::Tally;
 use library::Analysis;
@@ -40,13 +41,13 @@ fn analysis_lines(n: usize, found: &Analysis, restriction: &[u16]) -> String {
 /// The report without its products.
 fn report(bytes: &[u8]) -> String {
     let (mut on, mut free, mut room) = ([0; 4096], [0; 4096], [0; 4096]);
-    let read = library::read_table(bytes, &mut on, &mut free);
+    let read = lent_calls::read_table(bytes, &mut on, &mut free);
     if read.refusal != 0 {
         return format!("refused {}\n", read.refusal);
     }
     let n = read.variables;
     let (on, free) = (&on[..read.on_count], &free[..read.free_count]);
-    let found = library::analyse(n, on, free, &mut room);
+    let found = lent_calls::analyse(n, on, free, &mut room);
     assert_eq!(found.refusal, 0);
     let counts = format!("variables {n}\non {} free {}\n", on.len(), free.len());
     counts + &analysis_lines(n, &found, &room[..found.count])
