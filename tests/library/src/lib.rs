@@ -2,8 +2,10 @@
 //! the declarations of the package in the folder `rust`, which return the
 //! refusal number and all other numbers as they come. Follows document 01,
 //! sections "What the library holds" and "Refusal numbers". And the built programs
-//! (module `programs`).
+//! (module `programs`), and what the environment asks of the tests (module
+//! `settings`).
 
 pub mod programs;
+pub mod settings;
 
 pub use glospruma::raw::*;

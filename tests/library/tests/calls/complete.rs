@@ -2,9 +2,11 @@
 //! "Points and spaces".
 
 use crate::lent::{with_each_room, Lent};
+use crate::lent_calls;
 use crate::lists;
 use crate::tables;
 use crate::tally::Tally;
+use library::settings::fewest;
 use library::Completion;
 use reference::calls;
 use reference::numbers::CompletionNumbers;
@@ -12,7 +14,7 @@ use reference::refusal::SHORT_ROOM;
 use std::cmp::Ordering;
 
 /// The numbers of the call in the reference's words.
-fn numbers(found: &Completion) -> CompletionNumbers {
+pub fn numbers(found: &Completion) -> CompletionNumbers {
     CompletionNumbers {
         refusal: found.refusal,
         point_count: found.count,
@@ -57,7 +59,7 @@ fn every_small_table() {
         compare(&mut tally, n, &on, &free);
         tables += 1;
     }
-    assert_eq!(tables, 9 + 81 + 6561);
+    assert_eq!(tables, tables::small_count());
     tally.finish(&[0, 7]);
 }
 
@@ -76,7 +78,7 @@ fn random_and_known_tables() {
         }
     }
     println!("with free points: {off} all off, {tie} ties, {all_on} all on");
-    assert!(off.min(tie).min(all_on) >= 100);
+    assert!(off.min(tie).min(all_on) >= fewest(100));
     tally.finish(&[0, 7]);
 }
 
@@ -88,7 +90,7 @@ fn faulty_lists() {
     }
     for (n, on, free, refusal) in lists::ORDERED {
         compare(&mut tally, n, on, free);
-        let found = library::complete(n, on, free, &mut []);
+        let found = lent_calls::complete(n, on, free, &mut []);
         assert_eq!(found.refusal, refusal, "n {n}, on {on:?}, free {free:?}");
     }
     tally.finish(&[0, 1, 2, 3, 4, 7]);

@@ -3,9 +3,11 @@
 
 use crate::forms;
 use crate::lent::{with_each_room, Lent};
+use crate::lent_calls;
 use crate::stored;
 use crate::tables;
 use crate::tally::Tally;
+use library::settings::taken;
 use library::FormPoints;
 use reference::calls;
 use reference::generate::{self, Generator};
@@ -114,7 +116,7 @@ fn stored_tables() {
 fn random_bytes() {
     let mut tally = Tally::new("form points, random bytes");
     let mut generator = Generator::new(154);
-    for _ in 0..20_000 {
+    for _ in 0..taken(20_000) {
         compare(&mut tally, &forms::random_records(&mut generator));
         compare(&mut tally, &forms::random_bytes(&mut generator));
         compare(&mut tally, &generate::random_records(&mut generator, 6));
@@ -129,7 +131,7 @@ fn written_forms() {
     let mut room = vec![0; 4096];
     for ((n, on, free), bytes) in forms::written_forms() {
         let points = compare(&mut tally, &bytes);
-        let completion = library::complete(n, &on, &free, &mut room);
+        let completion = lent_calls::complete(n, &on, &free, &mut room);
         assert_eq!(points.as_deref(), Some(&room[..completion.count]));
     }
     tally.finish(&[0, 7]);
@@ -142,10 +144,14 @@ fn faulty_forms() {
             refusal: 8,
             ..Default::default()
         };
-        assert_eq!(library::form_points(bytes, &mut []), refused, "{bytes:X?}");
+        assert_eq!(
+            lent_calls::form_points(bytes, &mut []),
+            refused,
+            "{bytes:X?}"
+        );
         let mut room = [9; 4096];
         assert_eq!(
-            library::form_points(bytes, &mut room),
+            lent_calls::form_points(bytes, &mut room),
             refused,
             "{bytes:X?}"
         );
@@ -156,7 +162,7 @@ fn faulty_forms() {
 /// The points of a form that is read.
 fn points(bytes: &[u8]) -> Vec<u16> {
     let mut room = [0; 4096];
-    let found = library::form_points(bytes, &mut room);
+    let found = lent_calls::form_points(bytes, &mut room);
     assert_eq!((found.refusal, found.variables), (0, bytes[1].into()));
     room[..found.count].to_vec()
 }
@@ -187,6 +193,6 @@ fn last_point_and_all_others() {
     others.extend([0x45, 12, 0]);
     assert_eq!(points(&last), [4095]);
     assert_eq!(points(&others), (0..4095).collect::<Vec<u16>>());
-    let refusal = |length| library::form_points(&others, &mut vec![0; length]).refusal;
+    let refusal = |length| lent_calls::form_points(&others, &mut vec![0; length]).refusal;
     assert_eq!([4094, 4095].map(refusal), [7, 0]);
 }

@@ -3,9 +3,11 @@
 
 use crate::forms;
 use crate::lent::{with_each_room, Lent};
+use crate::lent_calls;
 use crate::stored;
 use crate::tables;
 use crate::tally::Tally;
+use library::settings::taken;
 use library::FormRewrite;
 use reference::calls;
 use reference::generate::{self, Generator};
@@ -111,7 +113,7 @@ fn stored_tables() {
 fn random_bytes() {
     let mut tally = Tally::new("form rewrite, random bytes");
     let mut generator = Generator::new(164);
-    for _ in 0..20_000 {
+    for _ in 0..taken(20_000) {
         compare(&mut tally, &forms::random_records(&mut generator));
         compare(&mut tally, &forms::random_bytes(&mut generator));
         compare(&mut tally, &generate::random_records(&mut generator, 6));
@@ -135,10 +137,14 @@ fn faulty_forms() {
             refusal: 8,
             length: 0,
         };
-        assert_eq!(library::form_rewrite(bytes, &mut []), refused, "{bytes:X?}");
+        assert_eq!(
+            lent_calls::form_rewrite(bytes, &mut []),
+            refused,
+            "{bytes:X?}"
+        );
         let mut room = [9; 64];
         assert_eq!(
-            library::form_rewrite(bytes, &mut room),
+            lent_calls::form_rewrite(bytes, &mut room),
             refused,
             "{bytes:X?}"
         );
@@ -150,9 +156,9 @@ fn faulty_forms() {
 fn room_for_the_shortest_form() {
     let bytes = [0x4E, 12, 0x45, 0, 0];
     let mut room = [9; 6];
-    let found = library::form_rewrite(&bytes, &mut room);
+    let found = lent_calls::form_rewrite(&bytes, &mut room);
     assert_eq!((found.refusal, found.length), (0, 5));
     assert_eq!(room, [0x4E, 12, 0x45, 0, 0, 9]);
-    let refusal = |length| library::form_rewrite(&bytes, &mut vec![0; length]).refusal;
+    let refusal = |length| lent_calls::form_rewrite(&bytes, &mut vec![0; length]).refusal;
     assert_eq!([0, 4, 5, 6].map(refusal), [7, 7, 0, 0]);
 }

@@ -1,8 +1,11 @@
 //! Forms as bytes, whole and damaged in every way. Follows document 01, section
-//! "The written form". The same seed gives the same forms.
+//! "The written form". The same seed gives the same forms; of long lists the share
+//! is made that the environment asks for.
 
+use crate::lent_calls;
 use crate::stored;
 use crate::tables;
+use library::settings::some;
 use reference::form::{self, Factor, Form, Product, MOST_PRODUCTS};
 use reference::generate::{self, Generator};
 use reference::table::Table;
@@ -86,7 +89,7 @@ pub fn random_forms(seed: u64) -> impl Iterator<Item = Vec<u8>> {
     let mut generator = Generator::new(seed);
     let widths = (0..ROUNDS).flat_map(|_| 1..=12);
     let kinds = widths.flat_map(|n| MAKERS.map(|maker| (n, maker)));
-    kinds.map(move |(n, maker)| bytes_of(n, maker(&mut generator, n)))
+    some(kinds).map(move |(n, maker)| bytes_of(n, maker(&mut generator, n)))
 }
 
 /// Inputs about the bounds: every byte as n, with no product and with one that
@@ -174,7 +177,7 @@ pub fn broken_forms(seed: u64) -> impl Iterator<Item = Vec<u8>> {
     let mut generator = Generator::new(seed);
     let widths = (0..20).flat_map(|_| 2..=12);
     let kinds = widths.flat_map(|n| BREAKS.map(|broken| (n, broken)));
-    kinds.map(move |(n, broken)| {
+    some(kinds).map(move |(n, broken)| {
         let mut product = Vec::new();
         while product.len() < 2 {
             product = generate::random_product(&mut generator, n);
@@ -221,7 +224,7 @@ pub fn damaged_forms(seed: u64) -> impl Iterator<Item = Vec<u8>> {
     let numbered = short_forms(seed).into_iter().enumerate();
     let short = numbered.flat_map(|(number, bytes)| match number % 9 {
         0 => stored::every_damage(&bytes),
-        _ => several_damages(&bytes),
+        _ => some(several_damages(&bytes)).collect(),
     });
     let mut generator = Generator::new(seed);
     let long = [1, 3, 6, 9].into_iter().flat_map(move |n| {
@@ -287,11 +290,11 @@ pub fn written_forms() -> impl Iterator<Item = (Table, Vec<u8>)> {
 /// which leaves the byte behind it.
 pub fn points_read(n: usize, form: &[u8]) -> Vec<u16> {
     let mut room = vec![9; form.len() + 1];
-    let found = library::form_rewrite(form, &mut room);
+    let found = lent_calls::form_rewrite(form, &mut room);
     assert_eq!((found.refusal, found.length), (0, form.len()));
     assert_eq!(room, [form, &[9]].concat());
     let mut room = [0; 4096];
-    let found = library::form_points(form, &mut room);
+    let found = lent_calls::form_points(form, &mut room);
     assert_eq!((found.refusal, found.variables), (0, n));
     room[..found.count].to_vec()
 }

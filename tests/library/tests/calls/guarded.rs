@@ -12,6 +12,7 @@ use crate::lists;
 use crate::stored;
 use crate::tables;
 use glospruma::{REPORT_ROOM, WRITTEN_ROOM};
+use library::settings::fewest;
 use reference::generate::Generator;
 use reference::table::Table;
 use std::fmt::Debug;
@@ -149,7 +150,7 @@ pub fn some_bytes() -> impl Iterator<Item = Vec<u8>> {
 fn on_each<I>(title: &str, inputs: impl Iterator<Item = I>, calls: impl Fn(&I)) {
     let count = inputs.map(|input| calls(&input)).count();
     println!("{title} beside guard pages on either side: {count}");
-    assert!(count >= 500, "too few inputs");
+    assert!(count >= fewest(500), "too few inputs");
 }
 
 #[test]

@@ -2,16 +2,18 @@
 //! section "Points and spaces".
 
 use crate::lent::Lent;
+use crate::lent_calls;
 use crate::lists;
 use crate::tables;
 use crate::tally::Tally;
+use library::settings::some;
 use library::LinearSpace;
 use reference::calls;
 use reference::generate::{self, Generator};
 use reference::numbers::{ShortList, SpaceNumbers};
 
 /// The numbers of the call in the reference's words.
-fn numbers(found: &LinearSpace) -> SpaceNumbers {
+pub fn numbers(found: &LinearSpace) -> SpaceNumbers {
     SpaceNumbers {
         refusal: found.refusal,
         degree: found.degree,
@@ -22,8 +24,8 @@ fn numbers(found: &LinearSpace) -> SpaceNumbers {
     }
 }
 
-/// Makes the call and compares its numbers and the memory.
-fn compare(tally: &mut Tally, n: usize, on: &[u16]) {
+/// Makes the call and compares its numbers and the memory; hands back the degree.
+fn compare(tally: &mut Tally, n: usize, on: &[u16]) -> usize {
     let lent = Lent::holding(on);
     let found = library::linear_space(n, lent.part());
     lent.assert_as_lent();
@@ -33,6 +35,7 @@ fn compare(tally: &mut Tally, n: usize, on: &[u16]) {
         "n {n}, on {on:?}"
     );
     tally.add(found.refusal);
+    found.degree
 }
 
 #[test]
@@ -61,16 +64,14 @@ fn random_and_known_tables() {
 fn every_degree() {
     let mut tally = Tally::new("linear space, every degree");
     let mut generator = Generator::new(101);
-    for n in 1..=12 {
-        for degree in 0..=n {
-            let mut tries = 0..1000;
-            let found = tries.any(|_| {
-                let (_, on, _) = generate::closed_table(&mut generator, n, degree, 50);
-                compare(&mut tally, n, &on);
-                library::linear_space(n, &on).degree == degree
-            });
-            assert!(found, "no function of {n} variables with degree {degree}");
-        }
+    let degrees = (1..=12).flat_map(|n| (0..=n).map(move |degree| (n, degree)));
+    for (n, degree) in some(degrees) {
+        let mut tries = 0..1000;
+        let found = tries.any(|_| {
+            let (_, on, _) = generate::closed_table(&mut generator, n, degree, 50);
+            compare(&mut tally, n, &on) == degree
+        });
+        assert!(found, "no function of {n} variables with degree {degree}");
     }
     tally.finish(&[0]);
 }
@@ -84,7 +85,7 @@ fn faulty_lists() {
     for (n, on, free, refusal) in lists::ORDERED {
         compare(&mut tally, n, on);
         if free.is_empty() {
-            assert_eq!(library::linear_space(n, on).refusal, refusal);
+            assert_eq!(lent_calls::linear_space(n, on).refusal, refusal);
         }
     }
     tally.finish(&[0, 1, 2, 3]);

@@ -2,9 +2,11 @@
 //! calls. Follows document 01, sections "Primes" and "Refusal numbers".
 
 use crate::lent::Lent;
+use crate::lent_calls;
 use crate::lists;
 use crate::tables;
 use crate::tally::Tally;
+use library::settings::{fewest, some, taken};
 use library::Listed;
 use reference::calls;
 use reference::generate::{self, Generator};
@@ -13,13 +15,13 @@ use reference::primes::{self, RECORD_LENGTH};
 use reference::table::Table;
 
 /// Numbers of candidates for n from 1 to 6, as document 01 prints them.
-const ENDS: [u64; 6] = [3, 11, 51, 307, 2_451, 26_387];
+pub const ENDS: [u64; 6] = [3, 11, 51, 307, 2_451, 26_387];
 
 /// On points of P6, whose first prime is 2 (1, 4).
 const P6_ON: [u16; 5] = [2, 3, 5, 6, 7];
 
 /// The numbers of the call in the reference's words.
-fn numbers(found: &Listed) -> ListingNumbers {
+pub fn numbers(found: &Listed) -> ListingNumbers {
     ListingNumbers {
         refusal: found.refusal,
         next_place: found.next as usize,
@@ -290,7 +292,7 @@ fn check_tables(
     title: &'static str,
     seed: u64,
     lists_each: usize,
-    fewest_with_prime: usize,
+    least_with_prime: usize,
     tables: impl Iterator<Item = Table>,
 ) {
     let mut tally = Tally::new(title);
@@ -315,21 +317,21 @@ fn check_tables(
          in lists, {} accepted, {} of them stopped by the room",
         sum.calls, sum.accepted, sum.short_rooms
     );
-    assert!(with_prime >= fewest_with_prime);
+    assert!(with_prime >= fewest(least_with_prime));
     tally.finish(&[0, 1, 2, 3, 4, 5, 9]);
 }
 
 #[test]
 fn every_table_of_one_and_two_variables() {
     let title = "list primes, every table of one and two variables";
-    let tables = tables::small_tables().take(9 + 81);
+    let tables = (1..=2).flat_map(tables::every_table);
     check_tables(title, 160, 2, 9 + 81 - 4 - 16, tables);
 }
 
 #[test]
 fn every_table_of_three_variables() {
     let title = "list primes, every table of three variables";
-    let tables = tables::small_tables().skip(9 + 81);
+    let tables = tables::every_table(3);
     check_tables(title, 168, 2, 6561 - 256, tables);
 }
 
@@ -338,7 +340,7 @@ fn every_table_of_three_variables() {
 #[test]
 fn every_call_of_one_and_two_variables() {
     let mut tally = Tally::new("list primes, every call of one and two variables");
-    for (n, on, free) in tables::small_tables().take(9 + 81) {
+    for (n, on, free) in (1..=2).flat_map(tables::every_table) {
         let table = LentTable::new(n, &on, &free);
         let primes = Primes::of(&(n, on, free));
         let end = ENDS[n - 1];
@@ -369,14 +371,14 @@ fn tables_of_four_variables() {
 #[test]
 fn tables_of_five_variables() {
     let title = "list primes, five variables";
-    let tables = tables_of(5, 164).skip(59);
+    let tables = tables_of(5, 164).skip(taken(59));
     check_tables(title, 163, 1, 200, tables);
 }
 
 #[test]
 fn tables_of_six_variables() {
     let title = "list primes, six variables";
-    let tables = tables_of(6, 165).skip(62).step_by(5);
+    let tables = tables_of(6, 165).skip(taken(62)).step_by(5);
     check_tables(title, 166, 1, 40, tables);
 }
 
@@ -390,7 +392,7 @@ fn candidates_as_their_own_primes() {
         let candidates = primes::candidates(n);
         assert_eq!(candidates.len() as u64, ENDS[n - 1]);
         let by = if n == 6 { 23 } else { 1 };
-        for (place, cube) in candidates.iter().enumerate().step_by(by) {
+        for (place, cube) in some(candidates.iter().enumerate().step_by(by)) {
             let table = LentTable::new(n, &primes::points_of(cube.members), &[]);
             let (at, end) = (place as u64, ENDS[n - 1]);
             let record = primes::record(cube).to_vec();
@@ -495,7 +497,7 @@ fn order_of_refusals() {
         for place in [26_388, u64::MAX] {
             for allowance in [0, 1, u64::MAX] {
                 let mut room = [7; 64];
-                let found = library::list_primes(n, on, free, place, allowance, &mut room);
+                let found = lent_calls::list_primes(n, on, free, place, allowance, &mut room);
                 assert_eq!(found, refused(refusal), "n {n}, on {on:?}, free {free:?}");
                 assert_eq!(room, [7; 64]);
             }
@@ -509,7 +511,7 @@ fn order_of_refusals() {
 fn rooms_around_all_records() {
     let list = |place, allowance, length| {
         let mut room = vec![7; length];
-        let found = library::list_primes(3, &P6_ON, &[], place, allowance, &mut room);
+        let found = lent_calls::list_primes(3, &P6_ON, &[], place, allowance, &mut room);
         assert!(room[8 * found.records..].iter().all(|&byte| byte == 7));
         (found, room)
     };
@@ -541,7 +543,7 @@ fn rooms_around_all_records() {
 #[test]
 fn the_table_as_given() {
     let mut room = [7; 16];
-    let found = library::list_primes(2, &[0], &[1, 2], 0, u64::MAX, &mut room);
+    let found = lent_calls::list_primes(2, &[0], &[1, 2], 0, u64::MAX, &mut room);
     assert_eq!(found, listed(11, 11, 2));
     assert_eq!(room, [1, 0, 1, 0, 0, 0, 0, 0, 1, 0, 2, 0, 0, 0, 0, 0]);
 }

@@ -2,6 +2,8 @@
 //! ways at once, so that the order of the refusals matters. Follows document 01,
 //! section "Refusal numbers".
 
+use library::settings::some;
+
 /// Numbers of variables to try: all that are accepted, and refused ones, among
 /// them those that a narrower number would take for 12 or less.
 pub fn variable_counts() -> Vec<usize> {
@@ -63,20 +65,21 @@ fn lists_of(n: usize) -> Vec<Vec<u16>> {
 
 /// Every pair of the lists above, for every number of variables above.
 pub fn pairs() -> impl Iterator<Item = (usize, Vec<u16>, Vec<u16>)> {
-    variable_counts().into_iter().flat_map(|n| {
+    let all = variable_counts().into_iter().flat_map(|n| {
         let lists = lists_of(n);
         let others = lists.clone();
         lists.into_iter().flat_map(move |on| {
             let frees = others.clone().into_iter();
             frees.map(move |free| (n, on.clone(), free))
         })
-    })
+    });
+    some(all)
 }
 
 /// Every list above alone, for every number of variables above.
 pub fn singles() -> impl Iterator<Item = (usize, Vec<u16>)> {
     let counts = variable_counts().into_iter();
-    counts.flat_map(|n| lists_of(n).into_iter().map(move |on| (n, on)))
+    some(counts.flat_map(|n| lists_of(n).into_iter().map(move |on| (n, on))))
 }
 
 /// n, on points, free points, and the refusal number by the order 1, 2, 3, 4.

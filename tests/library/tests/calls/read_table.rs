@@ -2,9 +2,11 @@
 //! sections "The written form" and "Refusal numbers".
 
 use crate::lent::{room_lengths, Lent};
+use crate::lent_calls;
 use crate::stored;
 use crate::tables;
 use crate::tally::Tally;
+use library::settings::taken;
 use library::TableRead;
 use reference::calls;
 use reference::generate::{self, Generator};
@@ -119,7 +121,7 @@ fn faulty_points() {
 fn random_records() {
     let mut tally = Tally::new("read table, random records");
     let mut generator = Generator::new(143);
-    for _ in 0..100_000 {
+    for _ in 0..taken(100_000) {
         let bytes = stored::random_records(&mut generator);
         compare(&mut tally, &bytes, 2, 2);
         let bytes = generate::random_records(&mut generator, 6);
@@ -130,7 +132,7 @@ fn random_records() {
 
 #[test]
 fn order_of_refusals() {
-    let refusal = |bytes: &[u8]| library::read_table(bytes, &mut [], &mut []).refusal;
+    let refusal = |bytes: &[u8]| lent_calls::read_table(bytes, &mut [], &mut []).refusal;
     assert_eq!(refusal(&[]), 8);
     assert_eq!(refusal(&[0x4E, 0, 0x45, 0, 0]), 1);
     assert_eq!(refusal(&[0x4E, 0, 0x45, 1, 0]), 8);

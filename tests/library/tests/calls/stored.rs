@@ -1,6 +1,8 @@
 //! Stored tables as bytes, whole and damaged in every way. Follows document 01,
-//! section "The written form".
+//! section "The written form". Of each list the share is made that the environment
+//! asks for.
 
+use library::settings::some;
 use reference::generate::{self, Generator};
 use reference::table::{self, Table};
 use reference::walk::{KIND_FREE, KIND_ON};
@@ -29,7 +31,7 @@ pub fn every_damage(bytes: &[u8]) -> Vec<Vec<u8>> {
     all.extend(generate::cuts(bytes));
     all.extend(generate::extensions(bytes));
     all.extend(generate::wrong_counts(bytes));
-    all
+    some(all).collect()
 }
 
 /// Damages to long bytes: bytes changed and cuts at both ends and at some places
@@ -46,7 +48,7 @@ pub fn some_damages(generator: &mut Generator, bytes: &[u8]) -> Vec<Vec<u8>> {
         all.push(bytes[..place].to_vec());
     }
     all.extend((0..=255).map(|byte| [bytes, &[byte]].concat()));
-    all
+    some(all).collect()
 }
 
 /// Stored bytes of so many records, on and free in turn, with points from 0 on.
@@ -72,7 +74,7 @@ pub fn longest() -> Vec<Vec<u8>> {
     all.push(vec![0; 12_293]);
     all.push(vec![0x4E; 12_294]);
     all.push(vec![0x45; 100_000]);
-    all
+    some(all).collect()
 }
 
 /// Records whose layout is good and whose points are too large, equal or
@@ -105,7 +107,7 @@ pub fn faulty_points() -> Vec<Vec<u8>> {
             }
         }
     }
-    all
+    some(all).collect()
 }
 
 /// A few records after a first one: mostly of the right kinds, mostly with

@@ -1,7 +1,9 @@
 //! Tables that every call on lists is compared on: all small ones, random ones
 //! and those of known functions. Follows document 01, section "Points and
-//! spaces". The same seed gives the same tables.
+//! spaces". The same seed gives the same tables; of each list the share is made
+//! that the environment asks for.
 
+use library::settings::{some, taken};
 use reference::generate::{self, Generator};
 use reference::space;
 use reference::table::Table;
@@ -22,15 +24,26 @@ fn numbered_table(n: usize, number: usize) -> Table {
     (n, on, free)
 }
 
-/// Every table of 1, 2 and 3 variables: 9, 81 and 6,561 of them.
+/// Every table of n variables: 9, 81 and 6,561 of them for n from 1 to 3.
+pub fn every_table(n: usize) -> impl Iterator<Item = Table> {
+    let numbers = some(0..3usize.pow(1 << n));
+    numbers.map(move |number| numbered_table(n, number))
+}
+
+/// Every table of 1, 2 and 3 variables.
 pub fn small_tables() -> impl Iterator<Item = Table> {
-    let numbers_of = |n: usize| 0..3usize.pow(1 << n);
-    (1..=3).flat_map(move |n| numbers_of(n).map(move |number| numbered_table(n, number)))
+    (1..=3).flat_map(every_table)
+}
+
+/// How many tables of 1, 2 and 3 variables there are.
+pub fn small_count() -> usize {
+    taken(9) + taken(81) + taken(6561)
 }
 
 /// The on points of every function of 4 variables: 65,536 of them.
 pub fn functions_of_four() -> impl Iterator<Item = Vec<u16>> {
-    (0..1u32 << 16).map(|set| (0..16).filter(|point| set >> point & 1 == 1).collect())
+    let sets = some(0..1u32 << 16);
+    sets.map(|set| (0..16).filter(|point| set >> point & 1 == 1).collect())
 }
 
 /// A maker of random tables of n variables.
@@ -142,7 +155,7 @@ pub fn random_tables(seed: u64) -> impl Iterator<Item = Table> {
     let mut generator = Generator::new(seed);
     let widths = (0..ROUNDS).flat_map(|_| 1..=12);
     let kinds = widths.flat_map(|n| MAKERS.map(|maker| (n, maker)));
-    kinds.map(move |(n, maker)| maker(&mut generator, n))
+    some(kinds).map(move |(n, maker)| maker(&mut generator, n))
 }
 
 /// Counters of set variables, thresholds, parities, constants and single points
@@ -178,7 +191,7 @@ fn known_functions() -> Vec<Table> {
 /// with half of its points made free.
 pub fn known_tables() -> impl Iterator<Item = Table> {
     let mut generator = Generator::new(1);
-    known_functions().into_iter().flat_map(move |table| {
+    some(known_functions()).flat_map(move |table| {
         let few = generate::with_free_points(&mut generator, &table, 10);
         let many = generate::with_free_points(&mut generator, &table, 50);
         [table, few, many]
@@ -200,7 +213,7 @@ pub fn kept_tables(seed: u64, rounds: usize, most_kept: usize) -> impl Iterator<
     let mut generator = Generator::new(seed);
     let widths = (0..rounds).flat_map(|_| 1..=12usize);
     let kinds = widths.flat_map(move |n| (0..=n.min(most_kept)).map(move |kept| (n, kept)));
-    kinds.flat_map(move |(n, kept)| {
+    some(kinds).flat_map(move |(n, kept)| {
         let on_percent = generator.below(101);
         let table = generate::closed_table(&mut generator, n, n - kept, on_percent);
         with_each_free(&mut generator, table)
@@ -217,7 +230,7 @@ pub fn lifted_tables(seed: u64) -> impl Iterator<Item = Table> {
         let flags = space::flags(kept, &on);
         [kept, 10, 12].map(|n| (n, kept, flags.clone()))
     });
-    kinds.flat_map(move |(n, kept, flags)| {
+    some(kinds).flat_map(move |(n, kept, flags)| {
         let basis = generate::random_space(&mut generator, n, n - kept);
         let table = generate::lifted(n, &basis, &flags);
         with_each_free(&mut generator, table)

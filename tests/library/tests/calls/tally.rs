@@ -1,7 +1,20 @@
 //! Counts of the calls made by a test, by refusal number. Follows document 01,
 //! section "Refusal numbers".
 
+use library::settings;
 use std::collections::BTreeMap;
+use std::fmt::Debug;
+
+/// Exactly the expected numbers must have come up, so that a test whose inputs
+/// miss one of them fails; in a share of the inputs, some of them and no other.
+pub fn assert_found<N: PartialEq + Debug>(title: &str, found: &[N], expected: &[N]) {
+    if settings::is_whole() {
+        assert_eq!(found, expected, "{title}");
+    } else {
+        let is_expected = found.iter().all(|number| expected.contains(number));
+        assert!(is_expected, "{title}: {found:?}, of {expected:?}");
+    }
+}
 
 /// How many calls came to each refusal number, 0 for those accepted.
 pub struct Tally {
@@ -23,8 +36,7 @@ impl Tally {
         *self.counts.entry(refusal).or_insert(0) += 1;
     }
 
-    /// Prints the counts; exactly the given refusal numbers must have come up, so
-    /// that a test whose inputs miss one of them fails.
+    /// Prints the counts; the given refusal numbers must have come up.
     pub fn finish(self, expected: &[u8]) {
         let calls: usize = self.counts.values().sum();
         let counts: Vec<String> = self
@@ -37,6 +49,7 @@ impl Tally {
             .collect();
         println!("{}: {calls} calls, {}", self.title, counts.join(", "));
         let found: Vec<u8> = self.counts.into_keys().collect();
-        assert_eq!(found, expected, "refusal numbers of: {}", self.title);
+        assert!(calls > 0, "no call of: {}", self.title);
+        assert_found(self.title, &found, expected);
     }
 }

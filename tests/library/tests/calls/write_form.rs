@@ -4,9 +4,11 @@
 
 use crate::forms;
 use crate::lent::{with_each_room, Lent};
+use crate::lent_calls;
 use crate::lists;
 use crate::tables;
 use crate::tally::Tally;
+use library::settings::fewest;
 use library::FormWritten;
 use reference::calls;
 use reference::generate;
@@ -79,7 +81,7 @@ impl Check {
 
     fn table(&mut self, (n, on, free): &Table) {
         let (expected, form) = compare(&mut self.tally, *n, on, free);
-        let completion = library::complete(*n, on, free, &mut self.room);
+        let completion = lent_calls::complete(*n, on, free, &mut self.room);
         let kept = n - completion.degree;
         self.kept[kept.min(7)] += 1;
         if kept > 6 {
@@ -93,12 +95,14 @@ impl Check {
 
     /// Prints the counts; each number of variables kept up to the given one must
     /// have come up so many times.
-    fn finish(self, refusals: &[u8], most_kept: usize, fewest: usize) {
+    fn finish(self, refusals: &[u8], most_kept: usize, least: usize) {
         println!(
             "tables by variables kept, above six as 7: {:?}; at most {} products",
             self.kept, self.most_products
         );
-        assert!(self.kept[..=most_kept].iter().all(|&count| count >= fewest));
+        assert!(self.kept[..=most_kept]
+            .iter()
+            .all(|&count| count >= fewest(least)));
         self.tally.finish(refusals);
     }
 }
@@ -107,7 +111,7 @@ impl Check {
 fn every_small_table() {
     let mut check = Check::new("write form, every small table");
     tables::small_tables().for_each(|table| check.table(&table));
-    assert_eq!(check.kept.iter().sum::<usize>(), 9 + 81 + 6561);
+    assert_eq!(check.kept.iter().sum::<usize>(), tables::small_count());
     check.finish(&[0, 7], 3, 100);
 }
 
@@ -118,7 +122,7 @@ fn every_function_of_four_variables() {
         let mut answer = [0; LONGEST_WRITTEN];
         let expected = calls::write_form(4, &on, &[], &mut answer);
         let mut room = vec![0; expected.length];
-        let found = library::write_form(4, &on, &[], &mut room);
+        let found = lent_calls::write_form(4, &on, &[], &mut room);
         assert_eq!(numbers(&found), expected, "on {on:?}");
         assert_eq!(room, answer[..expected.length], "on {on:?}");
         tally.add(found.refusal);
@@ -219,7 +223,7 @@ fn order_of_refusals() {
     for (n, on, free, refusal) in cases {
         for length in 0..5 {
             let mut room = vec![7; length];
-            let found = library::write_form(n, on, free, &mut room);
+            let found = lent_calls::write_form(n, on, free, &mut room);
             assert_eq!(numbers(&found), refused(refusal), "n {n}, on {on:?}");
             assert_eq!(room, vec![7; length]);
         }
@@ -232,7 +236,7 @@ fn order_of_refusals() {
 fn six_and_seven_variables_kept() {
     let refusal = |n, on: &[u16], length| {
         let mut room = vec![0; length];
-        library::write_form(n, on, &[], &mut room).refusal
+        lent_calls::write_form(n, on, &[], &mut room).refusal
     };
     for length in [0, 30, 2000] {
         let fits = if length < 30 { 7 } else { 0 };
@@ -253,7 +257,7 @@ fn six_and_seven_variables_kept() {
 fn canonical_variables_that_cancel() {
     let on = [1, 4, 6, 8, 10, 13, 17, 19, 20, 24, 29, 31];
     let mut room = [9; 24];
-    let found = library::write_form(5, &on, &[], &mut room);
+    let found = lent_calls::write_form(5, &on, &[], &mut room);
     assert_eq!((found.refusal, found.length, found.products), (0, 23, 2));
     let masks = [6, 10, 15, 19].map(|place| room[place - 1]);
     assert_eq!(masks, [2, 13, 30, 13]);

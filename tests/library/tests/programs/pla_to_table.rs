@@ -5,6 +5,7 @@
 use crate::pla_texts::{self as texts, Shape, KINDS};
 use crate::tally::Tally;
 use library::programs::run;
+use library::settings::{fewest, some, taken};
 use reference::generate::{self, Generator};
 use reference::pla::{self, Refused};
 use reference::table::{self, Table};
@@ -156,7 +157,7 @@ fn each_refusal() {
         (".p 1\n.o 2\n", "3", 38, 0),
         (".p 1\n.i 2\n.o 2\n", "3", 39, 0),
     ];
-    for &(text, argument, refusal, line) in cases {
+    for &(text, argument, refusal, line) in some(cases) {
         expect(text, argument, Err((refusal, line)));
     }
     let told: std::collections::BTreeSet<u8> = cases.iter().map(|case| case.2).collect();
@@ -216,7 +217,7 @@ fn whole_texts() {
     let mut tally = Tally::new("pla to table, whole texts");
     let mut counts = Counts::default();
     let mut generator = Generator::new(180);
-    for turn in 0..250 {
+    for turn in some(0..250) {
         let most_inputs = if turn < 200 { 6 } else { 12 };
         let shape = texts::shape(&mut generator, most_inputs, 4);
         let text = texts::whole(&mut generator, shape, 12);
@@ -230,8 +231,8 @@ fn whole_texts() {
         "accepted by type {:?}, with on points {}, with free points {}",
         counts.by_kind, counts.with_on, counts.with_free
     );
-    assert!(counts.by_kind.iter().all(|&count| count >= 50));
-    assert!(counts.with_on >= 200 && counts.with_free >= 100);
+    assert!(counts.by_kind.iter().all(|&count| count >= fewest(50)));
+    assert!(counts.with_on >= fewest(200) && counts.with_free >= fewest(100));
     tally.finish(&[0, 37]);
 }
 
@@ -239,7 +240,7 @@ fn whole_texts() {
 fn random_statements() {
     let mut tally = Tally::new("pla to table, random statements");
     let mut generator = Generator::new(181);
-    for _ in 0..600 {
+    for _ in 0..taken(600) {
         let text = texts::statements(&mut generator);
         let chosen = [1, 1, 1, 0, 2][generator.below(5)];
         let _ = compare(&mut tally, &text, chosen);
@@ -251,7 +252,7 @@ fn random_statements() {
 fn damaged_texts() {
     let mut tally = Tally::new("pla to table, damaged texts");
     let mut generator = Generator::new(182);
-    for _ in 0..700 {
+    for _ in 0..taken(700) {
         let shape = texts::shape(&mut generator, 5, 3);
         let mut text = texts::whole(&mut generator, shape, 6);
         for _ in 0..1 + generator.below(2) {
@@ -272,7 +273,7 @@ fn damaged_texts() {
 #[test]
 fn any_bytes() {
     let mut tally = Tally::new("pla to table, any bytes");
-    for byte in 0..=255u8 {
+    for byte in some(0..=255u8) {
         let text = [b".i 1\n.o 1\n1 1\n".as_slice(), &[byte], b"\n.e"].concat();
         let _ = compare(&mut tally, &text, 1);
     }
@@ -283,7 +284,7 @@ fn any_bytes() {
 #[test]
 fn tables_there_and_back() {
     let mut generator = Generator::new(183);
-    for n in (1..=12).flat_map(|n| [n; 4]) {
+    for n in some((1..=12).flat_map(|n| [n; 4])) {
         let on_percent = generator.below(101);
         let free_percent = generator.below(101 - on_percent);
         let table = generate::random_table(&mut generator, n, on_percent, free_percent);
