@@ -16,6 +16,7 @@ mod lent;
 mod lent_calls;
 mod lists;
 mod pages;
+mod random_run;
 mod stored;
 mod tables;
 mod tally;
@@ -31,7 +32,8 @@ mod read_table;
 mod report;
 mod write_form;
 
-mod damaged;
+mod damaged_bytes;
+mod damaged_lists;
 mod examples;
 mod guarded;
 mod published;

@@ -1,48 +1,28 @@
 //! Stored tables and forms damaged at random, several times over, and the answers
-//! of all calls that read them compared with the reference. The seed is fixed;
-//! for longer runs with another one:
-//!
-//!     GLOSPRUMA_SEED=7 GLOSPRUMA_CASES=100000000 \
-//!         cargo test --release damaged::at_random -- --nocapture
-//!
-//! Follows document 01, sections "The written form" and "Refusal numbers".
+//! of all calls that read them compared with the reference. Longer runs: see
+//! `random_run`. Follows document 01, sections "The written form" and "Refusal
+//! numbers".
 
 use crate::form_points;
 use crate::form_rewrite;
 use crate::forms;
-use crate::lent::{Entry, Lent};
+use crate::lent::Lent;
+use crate::random_run::{self, Run};
 use crate::read_table;
 use crate::report;
 use crate::stored;
 use crate::tables;
-use crate::tally::Tally;
-use crate::write_form;
-use glospruma::WRITTEN_ROOM;
+use library::settings;
 use reference::calls;
 use reference::generate::Generator;
-use reference::numbers::{FormNumbers, FormPointsNumbers, ReportNumbers, RewriteNumbers};
+use reference::numbers::{FormPointsNumbers, ReportNumbers, RewriteNumbers};
 use reference::refusal::SHORT_ROOM;
 use reference::walk::{
     self, KIND_END, KIND_FACTOR, KIND_FREE, KIND_ON, KIND_PRODUCT, KIND_VARIABLES,
 };
-use std::env;
-use std::fmt::Debug;
 
 /// Cases of a run, if the environment names no other number.
-const CASES: u64 = 500_000;
-
-/// Where the generator starts, if the environment names no other number.
-const SEED: u64 = 2026;
-
-/// A number from the environment, or else the given one.
-fn setting(name: &str, default: u64) -> u64 {
-    match env::var(name) {
-        Ok(text) => text
-            .parse()
-            .unwrap_or_else(|_| panic!("{name} is no number")),
-        Err(_) => default,
-    }
-}
+const CASES: usize = 500_000;
 
 /// Whole stored tables and forms to be damaged; most are short.
 fn whole_inputs(seed: u64) -> Vec<Vec<u8>> {
@@ -149,44 +129,12 @@ fn damaged(generator: &mut Generator, inputs: &[Vec<u8>]) -> Vec<u8> {
     bytes
 }
 
-/// A length of room for an answer: mostly enough for it, exact or not.
-fn room_length(generator: &mut Generator, answer: usize) -> usize {
-    match generator.below(8) {
-        0 => 0,
-        1 => answer.saturating_sub(1),
-        2 => generator.below(answer + 1),
-        3..=5 => answer,
-        _ => answer + generator.below(40),
-    }
+/// The calls of a run.
+struct Readers {
+    run: Run,
 }
 
-/// The comparisons of a run.
-struct Run {
-    generator: Generator,
-    tally: Tally,
-}
-
-impl Run {
-    /// Makes a call in a room of some length; its numbers must be the accepted
-    /// ones if the answer fits, and those of refusal 7 if not.
-    fn compare<E: Entry, N: PartialEq + Debug + Copy>(
-        &mut self,
-        bytes: &[u8],
-        answer: &[E],
-        (accepted, short): (N, N),
-        call: impl FnOnce(&[u8], &mut [E]) -> (u8, N),
-    ) {
-        let length = room_length(&mut self.generator, answer.len());
-        let fits = answer.len() <= length;
-        let (lent, mut room) = (Lent::holding(bytes), Lent::room(length));
-        let (refusal, found) = call(lent.part(), room.part_mut());
-        let expected = if fits { accepted } else { short };
-        assert_eq!(found, expected, "room {length}, {bytes:X?}");
-        lent.assert_as_lent();
-        room.assert_front(if fits { answer } else { &[] });
-        self.tally.add(refusal);
-    }
-
+impl Readers {
     fn form_points(&mut self, bytes: &[u8]) {
         let mut answer = vec![0; 4096];
         let accepted = calls::form_points(bytes, &mut answer);
@@ -195,10 +143,11 @@ impl Run {
             ..Default::default()
         };
         let answer = &answer[..accepted.point_count];
-        self.compare(bytes, answer, (accepted, short), |bytes, room| {
+        let call = |room: &mut [u16]| {
             let found = library::form_points(bytes, room);
             (found.refusal, form_points::numbers(&found))
-        });
+        };
+        self.run.compare(&bytes, answer, (accepted, short), call);
     }
 
     fn form_rewrite(&mut self, bytes: &[u8]) {
@@ -209,10 +158,11 @@ impl Run {
             ..Default::default()
         };
         let answer = &answer[..accepted.length];
-        self.compare(bytes, answer, (accepted, short), |bytes, room| {
+        let call = |room: &mut [u8]| {
             let found = library::form_rewrite(bytes, room);
             (found.refusal, form_rewrite::numbers(&found))
-        });
+        };
+        self.run.compare(&bytes, answer, (accepted, short), call);
     }
 
     fn report(&mut self, bytes: &[u8]) {
@@ -225,58 +175,42 @@ impl Run {
             refusal: SHORT_ROOM,
             length: 0,
         };
-        self.compare(bytes, text.as_bytes(), (accepted, short), |bytes, room| {
+        let call = |room: &mut [u8]| {
             let found = library::report(bytes, room);
             (found.refusal, report::numbers(&found))
-        });
-    }
-
-    fn write_form(&mut self, n: usize, on: &[u16], free: &[u16]) {
-        let mut answer = vec![0; WRITTEN_ROOM];
-        let accepted = calls::write_form(n, on, free, &mut answer);
-        let short = FormNumbers {
-            refusal: SHORT_ROOM,
-            ..Default::default()
         };
-        let answer = &answer[..accepted.length];
-        self.compare(&[], answer, (accepted, short), |_, room| {
-            let found = library::write_form(n, on, free, room);
-            (found.refusal, write_form::numbers(&found))
-        });
+        self.run
+            .compare(&bytes, text.as_bytes(), (accepted, short), call);
     }
 
-    /// Every call that reads bytes. The reference lists all primes for a form, so
-    /// a table of many variables is written and reported only at times.
-    fn all_calls(&mut self, bytes: &[u8]) {
+    /// Every call that reads bytes. The reference lists all primes for a report,
+    /// so that a table of many variables is reported only at times.
+    fn all(&mut self, bytes: &[u8]) {
         let (mut on, mut free) = (vec![0; 4096], vec![0; 4096]);
         let table = calls::read_table(bytes, &mut on, &mut free);
-        let on_length = room_length(&mut self.generator, table.on_count);
-        let free_length = room_length(&mut self.generator, table.free_count);
-        read_table::compare(&mut self.tally, bytes, on_length, free_length);
-        self.form_points(bytes);
-        self.form_rewrite(bytes);
+        let on_length = self.run.room_length(table.on_count);
+        let free_length = self.run.room_length(table.free_count);
+        read_table::compare(&mut self.run.tally, bytes, on_length, free_length);
+        let lent = Lent::holding(bytes);
+        self.form_points(lent.part());
+        self.form_rewrite(lent.part());
         let is_quick = table.refusal != 0 || table.variables < 5;
-        if is_quick || self.generator.chance(2) {
-            self.report(bytes);
+        if is_quick || self.run.generator.chance(2) {
+            self.report(lent.part());
         }
-        if table.refusal == 0 && (is_quick || self.generator.chance(2)) {
-            let (on, free) = (&on[..table.on_count], &free[..table.free_count]);
-            self.write_form(table.variables, on, free);
-        }
+        lent.assert_as_lent();
     }
 }
 
 #[test]
 fn at_random() {
-    let seed = setting("GLOSPRUMA_SEED", SEED);
-    let inputs = whole_inputs(seed);
-    let mut run = Run {
-        generator: Generator::new(seed),
-        tally: Tally::new("all readers, damaged at random"),
+    let inputs = whole_inputs(random_run::seed());
+    let mut readers = Readers {
+        run: Run::new("all readers, bytes damaged at random"),
     };
-    for _ in 0..setting("GLOSPRUMA_CASES", CASES) {
-        let bytes = damaged(&mut run.generator, &inputs);
-        run.all_calls(&bytes);
+    for _ in 0..settings::cases(CASES) {
+        let bytes = damaged(&mut readers.run.generator, &inputs);
+        readers.all(&bytes);
     }
-    run.tally.finish(&[0, 1, 2, 3, 5, 7, 8]);
+    readers.run.tally.finish(&[0, 1, 2, 3, 7, 8]);
 }
