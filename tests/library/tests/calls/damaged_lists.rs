@@ -267,23 +267,21 @@ impl Takers {
 
     /// Every call that takes lists. The reference tries every vector at every
     /// point, and lists all primes for a form, so that tables of many variables
-    /// are taken, and forms of many written, only at times.
+    /// are only listed, and forms of many not written, but at times.
     fn all(&mut self, (n, on, free): &Table) {
-        let n = *n;
-        let is_wide = n > 7 && table::check(n, on, free).is_ok();
-        if is_wide && !self.run.generator.chance(5) {
-            return;
-        }
         let (lent_on, lent_free) = (Lent::holding(on), Lent::holding(free));
-        let (on, free) = (lent_on.part(), lent_free.part());
-        self.linear_space(n, on);
-        self.analyse(n, on, free);
-        self.affine(n, on);
+        let (n, on, free) = (*n, lent_on.part(), lent_free.part());
         self.list_primes(n, on, free);
-        let kept = self.complete(n, on, free);
-        let is_quick = kept.is_none_or(|kept| !(5..=MAX_LISTED).contains(&kept));
-        if is_quick || self.run.generator.chance(2) {
-            self.write_form(n, on, free);
+        let is_quick = n < 9 || table::check(n, on, free).is_err();
+        if is_quick || self.run.generator.chance(5) {
+            self.linear_space(n, on);
+            self.analyse(n, on, free);
+            self.affine(n, on);
+            let kept = self.complete(n, on, free);
+            let is_quick = kept.is_none_or(|kept| !(5..=MAX_LISTED).contains(&kept));
+            if is_quick || self.run.generator.chance(2) {
+                self.write_form(n, on, free);
+            }
         }
         lent_on.assert_as_lent();
         lent_free.assert_as_lent();
