@@ -1,14 +1,13 @@
 //! What the environment asks of the tests, read here alone.
 //!
-//! - `GLOSPRUMA_SHARE=k`: of the long lists of inputs every k-th alone, for runs
-//!   under a tool that makes them slow; counts that tests ask for go down with it.
-//!   A prime above 12 is best: the makers of inputs go in turn through widths and
-//!   kinds, and other numbers would miss some.
+//! - `GLOSPRUMA_SHARE=k`: of the long lists of inputs about one in k, for runs
+//!   under a tool that makes them slow; what tests ask of their counts goes down
+//!   with it.
 //! - `GLOSPRUMA_SEED` and `GLOSPRUMA_CASES`: another start and another length of
-//!   the runs at random; a case counts whole, whatever the share.
+//!   the runs at random.
 
+use reference::generate::Generator;
 use std::env;
-use std::iter::StepBy;
 use std::sync::OnceLock;
 
 /// A number from the environment, or else the given one.
@@ -32,22 +31,29 @@ pub fn is_whole() -> bool {
     share() == 1
 }
 
-/// The share of a list of inputs: the first one, and then every k-th.
-pub fn some<I: IntoIterator>(inputs: I) -> StepBy<I::IntoIter> {
-    inputs.into_iter().step_by(share())
+/// Whether the share has the input at a place of its list: the first one, and of
+/// the others one in k, in no step with the order in which lists are made.
+fn has(place: usize) -> bool {
+    place == 0 || Generator::new(place as u64).below(share()) == 0
+}
+
+/// The share of a list of inputs.
+pub fn some<I: IntoIterator>(inputs: I) -> impl Iterator<Item = I::Item> {
+    let numbered = inputs.into_iter().enumerate();
+    numbered.filter_map(|(place, input)| has(place).then_some(input))
 }
 
 /// How many of so many inputs the share has.
 pub fn taken(inputs: usize) -> usize {
-    inputs.div_ceil(share())
+    (0..inputs).filter(|&place| has(place)).count()
 }
 
-/// How many of so many inputs of some kind the share must have: half of its part
-/// of them, since they don't stand at equal steps, and all if it is the whole.
+/// How many of so many inputs of some kind the share must have at least: a quarter
+/// of its part of them, since they may stand anywhere; all if it is the whole.
 pub fn fewest(inputs: usize) -> usize {
     match share() {
         1 => inputs,
-        share => inputs / share / 2,
+        share => inputs / share / 4,
     }
 }
 
