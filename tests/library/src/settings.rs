@@ -1,8 +1,8 @@
 //! What the environment asks of the tests, read here alone.
 //!
-//! - `GLOSPRUMA_SHARE=k`: of the long lists of inputs about one in k, for runs
-//!   under a tool that makes them slow; what tests ask of their counts goes down
-//!   with it.
+//! - `GLOSPRUMA_SHARE=k`, k up to some hundred: of the long lists of inputs about
+//!   one in k, for runs under a tool that makes them slow; what tests ask of their
+//!   counts goes down with it.
 //! - `GLOSPRUMA_SEED` and `GLOSPRUMA_CASES`: another start and another length of
 //!   the runs at random.
 
@@ -31,10 +31,13 @@ pub fn is_whole() -> bool {
     share() == 1
 }
 
-/// Whether the share has the input at a place of its list: the first one, and of
+/// So many inputs of each list are always taken.
+const ALWAYS: usize = 4;
+
+/// Whether the share has the input at a place of its list: the first ones, and of
 /// the others one in k, in no step with the order in which lists are made.
 fn has(place: usize) -> bool {
-    place == 0 || Generator::new(place as u64).below(share()) == 0
+    place < ALWAYS || Generator::new(place as u64).below(share()) == 0
 }
 
 /// The share of a list of inputs.

@@ -6,7 +6,7 @@ use crate::lent_calls;
 use crate::lists;
 use crate::tables;
 use crate::tally::Tally;
-use library::settings::{fewest, some, taken};
+use library::settings::{fewest, some};
 use library::Listed;
 use reference::calls;
 use reference::generate::{self, Generator};
@@ -371,14 +371,14 @@ fn tables_of_four_variables() {
 #[test]
 fn tables_of_five_variables() {
     let title = "list primes, five variables";
-    let tables = tables_of(5, 164).skip(taken(59));
+    let tables = tables_of(5, 164).skip(fewest(59));
     check_tables(title, 163, 1, 200, tables);
 }
 
 #[test]
 fn tables_of_six_variables() {
     let title = "list primes, six variables";
-    let tables = tables_of(6, 165).skip(taken(62)).step_by(5);
+    let tables = tables_of(6, 165).skip(fewest(62)).step_by(5);
     check_tables(title, 166, 1, 40, tables);
 }
 

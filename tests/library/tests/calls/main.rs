@@ -1,15 +1,17 @@
 //! Comparison of each call of the static library with the reference, one module
 //! to a call; `examples`, `published` and `vectors` compare with fixed answers
-//! instead. `damaged` makes all calls that read bytes on inputs damaged at random,
-//! `guarded` makes every call beside pages that may not be touched, `small_stack`
-//! makes them with little stack, and `safe` makes the safe calls of the Rust
-//! package. Follows document 01, sections "Points and spaces", "Primes", "The
-//! written form", "Refusal numbers", "The printed report" and "Table of proved
-//! examples".
+//! instead. `damaged_bytes` and `damaged_lists` make all calls on inputs damaged at
+//! random, `guarded` makes every call on the same input twice, with guard pages on
+//! either side, `small_stack` makes them with little stack, and `safe` makes the
+//! safe calls of the Rust package. Follows document 01, sections "Points and
+//! spaces", "Primes", "The written form", "Refusal numbers", "The printed report"
+//! and "Table of proved examples".
 //!
-//! A further call takes a module here with its own `compare` and the inputs of
-//! `tables`, `lists`, `stored` and `forms`; its declaration stands in the package
-//! in the folder `rust`.
+//! Every list, every room and all bytes of every call stand in memory of `lent`,
+//! beside a page that may not be touched. A further call takes a module here with
+//! its own `compare` and the inputs of `tables`, `lists`, `stored` and `forms`, and
+//! a line of `lent_calls`; its declaration stands in the package in the folder
+//! `rust`.
 
 mod forms;
 mod lent;

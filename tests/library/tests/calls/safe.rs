@@ -4,6 +4,7 @@
 //! numbers".
 
 use crate::guarded::{some_bytes, some_tables};
+use crate::lent::{Entry, Lent};
 use crate::lent_calls;
 use glospruma::{Refusal, RECORD_LENGTH};
 use library::{Affine, Analysis, Completion, FormPoints, FormRewrite, FormWritten};
@@ -38,8 +39,17 @@ macro_rules! refused {
     };
 }
 
+/// A room of so many entries for a raw call, and one with the same entries for a
+/// safe one.
+fn equal_rooms<E: Entry>(length: usize) -> (Vec<E>, Lent<E>) {
+    let lent = Lent::room(length);
+    (lent.part().to_vec(), lent)
+}
+
 fn spaces((n, on, free): &Table, length: usize) {
-    let (mut room, mut other) = (vec![7; length], vec![7; length]);
+    let (mut room, mut other) = equal_rooms(length);
+    let (on, free) = (Lent::holding(on), Lent::holding(free));
+    let (on, free) = (on.part(), free.part());
     let raw = lent_calls::linear_space(*n, on);
     let linear = |found: glospruma::LinearSpace| LinearSpace {
         refusal: 0,
@@ -59,7 +69,7 @@ fn spaces((n, on, free): &Table, length: usize) {
             high: found.high,
         }
     };
-    let safe = glospruma::complete(*n, on, free, &mut other);
+    let safe = glospruma::complete(*n, on, free, other.part_mut());
     compare(raw, safe, completed, refused!(Completion));
     let raw = lent_calls::analyse(*n, on, free, &mut room);
     let analysed = |found: glospruma::Analysis| {
@@ -73,7 +83,7 @@ fn spaces((n, on, free): &Table, length: usize) {
             count: found.restriction.len(),
         }
     };
-    let safe = glospruma::analyse(*n, on, free, &mut other);
+    let safe = glospruma::analyse(*n, on, free, other.part_mut());
     compare(raw, safe, analysed, refused!(Analysis));
     let raw = lent_calls::affine(*n, on, &mut room);
     let smallest = |found: glospruma::AffineSpace| {
@@ -86,13 +96,15 @@ fn spaces((n, on, free): &Table, length: usize) {
             count: found.projection.len(),
         }
     };
-    let safe = glospruma::affine(*n, on, &mut other);
+    let safe = glospruma::affine(*n, on, other.part_mut());
     compare(raw, safe, smallest, refused!(Affine));
-    assert_eq!(room, other);
+    other.assert_front(&room);
 }
 
 fn primes_and_form((n, on, free): &Table, length: usize) {
-    let (mut room, mut other) = (vec![7; length], vec![7; length]);
+    let (mut room, mut other) = equal_rooms(length);
+    let (on, free) = (Lent::holding(on), Lent::holding(free));
+    let (on, free) = (on.part(), free.part());
     for (place, allowance) in [(0, u64::MAX), (3, 40), (60, 1)] {
         let raw = lent_calls::list_primes(*n, on, free, place, allowance, &mut room);
         let listed = |found: glospruma::Listing| {
@@ -107,7 +119,7 @@ fn primes_and_form((n, on, free): &Table, length: usize) {
                 records: found.primes().count(),
             }
         };
-        let safe = glospruma::list_primes(*n, on, free, place, allowance, &mut other);
+        let safe = glospruma::list_primes(*n, on, free, place, allowance, other.part_mut());
         compare(raw, safe, listed, refused!(Listed));
     }
     let raw = lent_calls::write_form(*n, on, free, &mut room);
@@ -119,14 +131,14 @@ fn primes_and_form((n, on, free): &Table, length: usize) {
             products: found.products,
         }
     };
-    let safe = glospruma::write_form(*n, on, free, &mut other);
+    let safe = glospruma::write_form(*n, on, free, other.part_mut());
     compare(raw, safe, written, refused!(FormWritten));
-    assert_eq!(room, other);
+    other.assert_front(&room);
 }
 
 fn stored_table(bytes: &[u8], length: usize) {
-    let (mut on, mut free) = (vec![7; length], vec![7; length]);
-    let (mut other_on, mut other_free) = (on.clone(), free.clone());
+    let (mut on, mut other_on) = equal_rooms(length);
+    let (mut free, mut other_free) = equal_rooms(length);
     let raw = lent_calls::read_table(bytes, &mut on, &mut free);
     let read = |found: glospruma::Table| {
         assert_eq!(found.on, &on[..raw.on_count]);
@@ -138,13 +150,17 @@ fn stored_table(bytes: &[u8], length: usize) {
             free_count: found.free.len(),
         }
     };
-    let safe = glospruma::read_table(bytes, &mut other_on, &mut other_free);
+    let (safe_on, safe_free) = (other_on.part_mut(), other_free.part_mut());
+    let safe = glospruma::read_table(Lent::holding(bytes).part(), safe_on, safe_free);
     compare(raw, safe, read, refused!(TableRead));
-    assert_eq!((on, free), (other_on, other_free));
+    other_on.assert_front(&on);
+    other_free.assert_front(&free);
 }
 
 fn form_and_report(bytes: &[u8], length: usize) {
-    let (mut points, mut other_points) = (vec![7; length], vec![7; length]);
+    let lent = Lent::holding(bytes);
+    let bytes = lent.part();
+    let (mut points, mut other_points) = equal_rooms(length);
     let raw = lent_calls::form_points(bytes, &mut points);
     let read = |found: glospruma::FormPoints| {
         assert_eq!(found.points, &points[..raw.count]);
@@ -154,9 +170,9 @@ fn form_and_report(bytes: &[u8], length: usize) {
             count: found.points.len(),
         }
     };
-    let safe = glospruma::form_points(bytes, &mut other_points);
+    let safe = glospruma::form_points(bytes, other_points.part_mut());
     compare(raw, safe, read, refused!(FormPoints));
-    let (mut room, mut other) = (vec![7; length], vec![7; length]);
+    let (mut room, mut other) = equal_rooms(length);
     let raw = lent_calls::form_rewrite(bytes, &mut room);
     let rewritten = |found: glospruma::RewrittenForm| {
         assert_eq!(found.bytes, &room[..raw.length]);
@@ -165,7 +181,7 @@ fn form_and_report(bytes: &[u8], length: usize) {
             length: found.bytes.len(),
         }
     };
-    let safe = glospruma::form_rewrite(bytes, &mut other);
+    let safe = glospruma::form_rewrite(bytes, other.part_mut());
     compare(raw, safe, rewritten, refused!(FormRewrite));
     let raw = lent_calls::report(bytes, &mut room);
     let reported = |found: glospruma::Report| {
@@ -175,9 +191,10 @@ fn form_and_report(bytes: &[u8], length: usize) {
             length: found.text.len(),
         }
     };
-    let safe = glospruma::report(bytes, &mut other);
+    let safe = glospruma::report(bytes, other.part_mut());
     compare(raw, safe, reported, refused!(Report));
-    assert_eq!((points, room), (other_points, other));
+    other_points.assert_front(&points);
+    other.assert_front(&room);
 }
 
 #[test]

@@ -3,6 +3,7 @@
 //! program `stack` prints what each call uses. Follows document 01, section "What
 //! the library holds".
 
+use crate::lent_calls;
 use crate::stored;
 use glospruma::{MAX_POINTS, REPORT_ROOM, WRITTEN_ROOM};
 use reference::generate::{self, Generator};
@@ -17,21 +18,21 @@ fn make_calls((n, on, free): &Table) {
     let (n, bytes) = (*n, stored::bytes_of(&(*n, on.clone(), free.clone())));
     let (mut points, mut others) = (vec![0; MAX_POINTS], vec![0; MAX_POINTS]);
     let (mut form, mut text) = (vec![0; WRITTEN_ROOM], vec![0; REPORT_ROOM]);
-    let read = library::read_table(&bytes, &mut points, &mut others);
+    let read = lent_calls::read_table(&bytes, &mut points, &mut others);
     assert_eq!((read.refusal, read.variables), (0, n));
-    assert_eq!(library::linear_space(n, on).refusal, 0);
-    assert_eq!(library::affine(n, on, &mut points).refusal, 0);
-    assert_eq!(library::analyse(n, on, free, &mut points).refusal, 0);
-    assert_eq!(library::complete(n, on, free, &mut points).refusal, 0);
-    let listed = library::list_primes(n, on, free, 0, u64::MAX, &mut text);
+    assert_eq!(lent_calls::linear_space(n, on).refusal, 0);
+    assert_eq!(lent_calls::affine(n, on, &mut points).refusal, 0);
+    assert_eq!(lent_calls::analyse(n, on, free, &mut points).refusal, 0);
+    assert_eq!(lent_calls::complete(n, on, free, &mut points).refusal, 0);
+    let listed = lent_calls::list_primes(n, on, free, 0, u64::MAX, &mut text);
     assert_eq!(listed.refusal, if n > 6 { 5 } else { 0 });
-    let written = library::write_form(n, on, free, &mut form);
+    let written = lent_calls::write_form(n, on, free, &mut form);
     if written.refusal != 5 {
         let form = &form[..written.length];
-        assert_eq!(library::form_points(form, &mut points).refusal, 0);
-        assert_eq!(library::form_rewrite(form, &mut text).refusal, 0);
+        assert_eq!(lent_calls::form_points(form, &mut points).refusal, 0);
+        assert_eq!(lent_calls::form_rewrite(form, &mut text).refusal, 0);
     }
-    assert_eq!(library::report(&bytes, &mut text).refusal, 0);
+    assert_eq!(lent_calls::report(&bytes, &mut text).refusal, 0);
 }
 
 #[test]
