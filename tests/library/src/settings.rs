@@ -52,11 +52,12 @@ pub fn taken(inputs: usize) -> usize {
 }
 
 /// How many of so many inputs of some kind the share must have at least: a quarter
-/// of its part of them, since they may stand anywhere; all if it is the whole.
+/// of its part of them, since they may stand anywhere, and one; all if it is the
+/// whole.
 pub fn fewest(inputs: usize) -> usize {
     match share() {
         1 => inputs,
-        share => inputs / share / 4,
+        share => (inputs / share / 4).max(1),
     }
 }
 

@@ -5,8 +5,7 @@ use crate::lent::{with_each_room, Lent};
 use crate::lent_calls;
 use crate::lists;
 use crate::tables;
-use crate::tally::Tally;
-use library::settings::fewest;
+use crate::tally::{assert_counts, Tally};
 use library::Completion;
 use reference::calls;
 use reference::numbers::CompletionNumbers;
@@ -78,7 +77,7 @@ fn random_and_known_tables() {
         }
     }
     println!("with free points: {off} all off, {tie} ties, {all_on} all on");
-    assert!(off.min(tie).min(all_on) >= fewest(100));
+    assert_counts("complete, by degrees", &[off, tie, all_on], 100);
     tally.finish(&[0, 7]);
 }
 

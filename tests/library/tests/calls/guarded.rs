@@ -11,8 +11,8 @@ use crate::lent_calls;
 use crate::lists;
 use crate::stored;
 use crate::tables;
+use crate::tally::assert_counts;
 use glospruma::{REPORT_ROOM, WRITTEN_ROOM};
-use library::settings::fewest;
 use reference::generate::Generator;
 use reference::table::Table;
 use std::fmt::Debug;
@@ -150,7 +150,7 @@ pub fn some_bytes() -> impl Iterator<Item = Vec<u8>> {
 fn on_each<I>(title: &str, inputs: impl Iterator<Item = I>, calls: impl Fn(&I)) {
     let count = inputs.map(|input| calls(&input)).count();
     println!("{title} beside guard pages on either side: {count}");
-    assert!(count >= fewest(500), "too few inputs");
+    assert_counts(title, &[count], 500);
 }
 
 #[test]

@@ -5,8 +5,8 @@ use crate::lent::Lent;
 use crate::lent_calls;
 use crate::lists;
 use crate::tables;
-use crate::tally::Tally;
-use library::settings::{fewest, some};
+use crate::tally::{assert_counts, Tally};
+use library::settings::{is_whole, some};
 use library::Listed;
 use reference::calls;
 use reference::generate::{self, Generator};
@@ -292,7 +292,7 @@ fn check_tables(
     title: &'static str,
     seed: u64,
     lists_each: usize,
-    least_with_prime: usize,
+    fewest_with_prime: usize,
     tables: impl Iterator<Item = Table>,
 ) {
     let mut tally = Tally::new(title);
@@ -317,7 +317,7 @@ fn check_tables(
          in lists, {} accepted, {} of them stopped by the room",
         sum.calls, sum.accepted, sum.short_rooms
     );
-    assert!(with_prime >= fewest(least_with_prime));
+    assert_counts("tables with a prime", &[with_prime], fewest_with_prime);
     tally.finish(&[0, 1, 2, 3, 4, 5, 9]);
 }
 
@@ -357,8 +357,16 @@ fn every_call_of_one_and_two_variables() {
 
 /// Random and known tables of n variables.
 fn tables_of(n: usize, seed: u64) -> impl Iterator<Item = Table> {
-    let tables = tables::known_tables().chain(tables::random_tables(seed));
-    tables.filter(move |table| table.0 == n)
+    tables::known_tables_of(n..=n).chain(tables::random_tables_of(n..=n, seed))
+}
+
+/// So many tables are passed over, for the time that they would take; none of a
+/// share of them.
+fn passed_over(tables: usize) -> usize {
+    match is_whole() {
+        true => tables,
+        false => 0,
+    }
 }
 
 #[test]
@@ -371,14 +379,14 @@ fn tables_of_four_variables() {
 #[test]
 fn tables_of_five_variables() {
     let title = "list primes, five variables";
-    let tables = tables_of(5, 164).skip(fewest(59));
+    let tables = tables_of(5, 164).skip(passed_over(59));
     check_tables(title, 163, 1, 200, tables);
 }
 
 #[test]
 fn tables_of_six_variables() {
     let title = "list primes, six variables";
-    let tables = tables_of(6, 165).skip(fewest(62)).step_by(5);
+    let tables = tables_of(6, 165).skip(passed_over(62)).step_by(5);
     check_tables(title, 166, 1, 40, tables);
 }
 

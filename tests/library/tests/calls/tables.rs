@@ -7,6 +7,7 @@ use library::settings::{some, taken};
 use reference::generate::{self, Generator};
 use reference::space;
 use reference::table::Table;
+use std::ops::RangeInclusive;
 
 /// The table of n variables whose points are off, on or free by the digits of a
 /// number to base 3, that of point 0 lowest.
@@ -152,8 +153,13 @@ const ROUNDS: usize = 32;
 
 /// Random tables of 1 to 12 variables: 3,072 of them.
 pub fn random_tables(seed: u64) -> impl Iterator<Item = Table> {
+    random_tables_of(1..=12, seed)
+}
+
+/// Random tables of some numbers of variables, 256 for each.
+pub fn random_tables_of(widths: RangeInclusive<usize>, seed: u64) -> impl Iterator<Item = Table> {
     let mut generator = Generator::new(seed);
-    let widths = (0..ROUNDS).flat_map(|_| 1..=12);
+    let widths = (0..ROUNDS).flat_map(move |_| widths.clone());
     let kinds = widths.flat_map(|n| MAKERS.map(|maker| (n, maker)));
     some(kinds).map(move |(n, maker)| maker(&mut generator, n))
 }
@@ -190,8 +196,15 @@ fn known_functions() -> Vec<Table> {
 /// Tables of known functions of up to 12 variables, each also with a tenth and
 /// with half of its points made free.
 pub fn known_tables() -> impl Iterator<Item = Table> {
+    known_tables_of(1..=12)
+}
+
+/// As before, for some numbers of variables.
+pub fn known_tables_of(widths: RangeInclusive<usize>) -> impl Iterator<Item = Table> {
     let mut generator = Generator::new(1);
-    some(known_functions()).flat_map(move |table| {
+    let known = known_functions().into_iter();
+    let chosen = known.filter(move |table| widths.contains(&table.0));
+    some(chosen).flat_map(move |table| {
         let few = generate::with_free_points(&mut generator, &table, 10);
         let many = generate::with_free_points(&mut generator, &table, 50);
         [table, few, many]

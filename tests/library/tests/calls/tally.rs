@@ -16,6 +16,17 @@ pub fn assert_found<N: PartialEq + Debug>(title: &str, found: &[N], expected: &[
     }
 }
 
+/// Each kind of input must have come up at least so many times; in a share of the
+/// inputs, all kinds together as often as the share asks for.
+pub fn assert_counts(title: &str, counts: &[usize], least: usize) {
+    let is_enough = if settings::is_whole() {
+        counts.iter().all(|&count| count >= least)
+    } else {
+        counts.iter().sum::<usize>() >= settings::fewest(least * counts.len())
+    };
+    assert!(is_enough, "{title}: {counts:?}, too few for {least}");
+}
+
 /// How many calls came to each refusal number, 0 for those accepted.
 pub struct Tally {
     title: &'static str,

@@ -7,8 +7,7 @@ use crate::lent::{with_each_room, Lent};
 use crate::lent_calls;
 use crate::lists;
 use crate::tables;
-use crate::tally::Tally;
-use library::settings::fewest;
+use crate::tally::{assert_counts, Tally};
 use library::FormWritten;
 use reference::calls;
 use reference::generate;
@@ -95,14 +94,12 @@ impl Check {
 
     /// Prints the counts; each number of variables kept up to the given one must
     /// have come up so many times.
-    fn finish(self, refusals: &[u8], most_kept: usize, least: usize) {
+    fn finish(self, refusals: &[u8], most_kept: usize, fewest: usize) {
         println!(
             "tables by variables kept, above six as 7: {:?}; at most {} products",
             self.kept, self.most_products
         );
-        assert!(self.kept[..=most_kept]
-            .iter()
-            .all(|&count| count >= fewest(least)));
+        assert_counts("variables kept", &self.kept[..=most_kept], fewest);
         self.tally.finish(refusals);
     }
 }

@@ -3,9 +3,9 @@
 //! Follows docs/DECISIONS.md, section "Truth tables in Berkeley PLA".
 
 use crate::pla_texts::{self as texts, Shape, KINDS};
-use crate::tally::Tally;
+use crate::tally::{assert_counts, Tally};
 use library::programs::run;
-use library::settings::{fewest, some, taken};
+use library::settings::{some, taken};
 use reference::generate::{self, Generator};
 use reference::pla::{self, Refused};
 use reference::table::{self, Table};
@@ -231,8 +231,9 @@ fn whole_texts() {
         "accepted by type {:?}, with on points {}, with free points {}",
         counts.by_kind, counts.with_on, counts.with_free
     );
-    assert!(counts.by_kind.iter().all(|&count| count >= fewest(50)));
-    assert!(counts.with_on >= fewest(200) && counts.with_free >= fewest(100));
+    assert_counts("texts by type", &counts.by_kind, 50);
+    assert_counts("texts with on points", &[counts.with_on], 200);
+    assert_counts("texts with free points", &[counts.with_free], 100);
     tally.finish(&[0, 37]);
 }
 
