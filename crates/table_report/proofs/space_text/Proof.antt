@@ -1,14 +1,12 @@
 -- `table_report::space_text` meets its contract: degree, canonical variables, equations, restriction. Assumes nothing.
 use mathlib.Core.Path.{sym, ap}
-use mathlib.Core.List.{_++_}
 use borrow.Author.Needs.{needs}
 use lib.ListN.{length}
-use Rattle.gf2.specs.Basis.{canonicalPlaces, variablesAt}
 use Rattle.basis.specs.Reduced.{vectorsOf}
-use Rattle.space.specs.Restriction.{equations}
-use Rattle.text.proofs.Writing.{room-same, room-first, room-then, wrote-same, wrote-both}
-use Rattle.lines.specs.Words.{degreeWord, canonicalWord, restrictionWord}
-use Rattle.lines.specs.Lines.{numberLine, numbersLine, equationLines}
+use Rattle.text.specs.Writing.{Wrote}
+use Rattle.text.proofs.Writing.{room-same, room-first, room-second, room-third, room-then, wrote-same, wrote-both}
+use Rattle.lines.specs.Words.{degreeWord}
+use Rattle.lines.specs.Lines.{numberLine}
 use Rattle.table_report.specs.Text.{spaceText}
 use Rattle.table_report.proofs.space_text.Statement.{statement}
 use Rattle.table_report.proofs.space_text.Tie as tie
@@ -23,25 +21,25 @@ number-line-requires : tie.Need-number-line-requires
 unfolding spaceText
 number-line-requires c κs =
     let s = c .before .before .before .before .before in
-    let a = s .args in
-    room-same (ap (numberLine degreeWord) (sym (c .degree .ensures))) (room-first (numberLine degreeWord (length (vectorsOf (a .basis)))) (numbersLine canonicalWord (variablesAt (a .n) (canonicalPlaces (a .n) (vectorsOf (a .basis)))) ++ (equationLines (a .n) 1 (equations (a .n) (vectorsOf (a .basis))) ++ numbersLine restrictionWord (a .points .now))) (s .pre .1))
+    room-same (ap (numberLine degreeWord) (sym (c .degree .ensures))) (room-first (numberLine degreeWord (length (vectorsOf (s .args .basis)))) _ (s .pre .1))
+
+-- The line of the degree as it was written, and the room behind it.
+degree-line : (c : tie.After-number-line) → let a = c .before .before .before .before .before .before .args in
+    Wrote (a .room .now) (a .at) (numberLine degreeWord (length (vectorsOf (a .basis)))) (c .number-line .last .0) (c .number-line .result)
+degree-line c = wrote-same (ap (numberLine degreeWord) (c .before .degree .ensures)) (c .number-line .ensures)
 
 canonical-line-requires : tie.Need-canonical-line-requires
 unfolding spaceText
 canonical-line-requires c κs =
     let s = c .before .before .before .before .before .before .before .before .before in
-    let a = s .args in
-    let r1 = room-then (numbersLine canonicalWord (variablesAt (a .n) (canonicalPlaces (a .n) (vectorsOf (a .basis)))) ++ (equationLines (a .n) 1 (equations (a .n) (vectorsOf (a .basis))) ++ numbersLine restrictionWord (a .points .now))) (s .pre .1) (wrote-same (ap (numberLine degreeWord) (c .before .before .before .before .degree .ensures)) (c .before .before .before .number-line .ensures)) in
-    (s .pre .0, room-first (numbersLine canonicalWord (variablesAt (a .n) (canonicalPlaces (a .n) (vectorsOf (a .basis))))) (equationLines (a .n) 1 (equations (a .n) (vectorsOf (a .basis))) ++ numbersLine restrictionWord (a .points .now)) r1)
+    (s .pre .0, room-second _ _ (s .pre .1) (degree-line (c .before .before .before)))
 
 equations-text-requires : tie.Need-equations-text-requires
 unfolding spaceText
 equations-text-requires c κs =
     let s = c .before .before .before .before .before .before .before .before .before .before .before .before .before in
-    let a = s .args in
-    let r1 = room-then (numbersLine canonicalWord (variablesAt (a .n) (canonicalPlaces (a .n) (vectorsOf (a .basis)))) ++ (equationLines (a .n) 1 (equations (a .n) (vectorsOf (a .basis))) ++ numbersLine restrictionWord (a .points .now))) (s .pre .1) (wrote-same (ap (numberLine degreeWord) (c .before .before .before .before .before .before .before .before .degree .ensures)) (c .before .before .before .before .before .before .before .number-line .ensures)) in
-    let r2 = room-then (equationLines (a .n) 1 (equations (a .n) (vectorsOf (a .basis))) ++ numbersLine restrictionWord (a .points .now)) r1 (c .before .before .before .canonical-line .ensures) in
-    (s .pre .0, room-first (equationLines (a .n) 1 (equations (a .n) (vectorsOf (a .basis)))) (numbersLine restrictionWord (a .points .now)) r2)
+    let rest = room-then _ (s .pre .1) (degree-line (c .before .before .before .before .before .before .before)) in
+    (s .pre .0, room-second _ _ rest (c .before .before .before .canonical-line .ensures))
 
 slice-aggregate-numbers-line : tie.Need-slice-aggregate-numbers-line
 slice-aggregate-numbers-line c = search needs
@@ -50,10 +48,8 @@ numbers-line-requires : tie.Need-numbers-line-requires
 unfolding spaceText
 numbers-line-requires c κs =
     let s = c .before .before .before .before .before .before .before .before .before .before .before .before .before .before .before .before .before .before in
-    let a = s .args in
-    let r1 = room-then (numbersLine canonicalWord (variablesAt (a .n) (canonicalPlaces (a .n) (vectorsOf (a .basis)))) ++ (equationLines (a .n) 1 (equations (a .n) (vectorsOf (a .basis))) ++ numbersLine restrictionWord (a .points .now))) (s .pre .1) (wrote-same (ap (numberLine degreeWord) (c .before .before .before .before .before .before .before .before .before .before .before .before .before .degree .ensures)) (c .before .before .before .before .before .before .before .before .before .before .before .before .number-line .ensures)) in
-    let r2 = room-then (equationLines (a .n) 1 (equations (a .n) (vectorsOf (a .basis))) ++ numbersLine restrictionWord (a .points .now)) r1 (c .before .before .before .before .before .before .before .before .canonical-line .ensures) in
-    room-then (numbersLine restrictionWord (a .points .now)) r2 (c .before .before .before .before .equations-text .ensures)
+    let rest = room-then _ (s .pre .1) (degree-line (c .before .before .before .before .before .before .before .before .before .before .before .before)) in
+    room-third _ _ rest (c .before .before .before .before .before .before .before .before .canonical-line .ensures) (c .before .before .before .before .equations-text .ensures)
 
 same-length : tie.Need-same-length
 same-length c = search needs
@@ -61,8 +57,9 @@ same-length c = search needs
 returns : tie.Need-returns
 unfolding spaceText
 returns c =
-    wrote-both (wrote-same (ap (numberLine degreeWord) (c .before .before .before .before .before .before .before .before .before .before .before .before .before .before .before .before .degree .ensures)) (c .before .before .before .before .before .before .before .before .before .before .before .before .before .before .before .number-line .ensures))
-    (wrote-both (c .before .before .before .before .before .before .before .before .before .before .before .canonical-line .ensures) (wrote-both (c .before .before .before .before .before .before .before .equations-text .ensures) (c .before .before .numbers-line .ensures)))
+    let degree = degree-line (c .before .before .before .before .before .before .before .before .before .before .before .before .before .before .before) in
+    wrote-both degree (wrote-both (c .before .before .before .before .before .before .before .before .before .before .before .canonical-line .ensures)
+    (wrote-both (c .before .before .before .before .before .before .before .equations-text .ensures) (c .before .before .numbers-line .ensures)))
 
 pub space-text-spec : {M : Type 1} → statement M
 space-text-spec =

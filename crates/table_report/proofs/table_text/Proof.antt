@@ -7,7 +7,8 @@ use Rattle.space.specs.Closure.{linearSpace}
 use Rattle.space.specs.Completion.{completed}
 use Rattle.space.specs.Restriction.{restriction}
 use Rattle.projection.proofs.Restrictions.{completed-spans}
-use Rattle.text.proofs.Writing.{room-same, room-first, room-then, wrote-same, wrote-both}
+use Rattle.text.specs.Writing.{HasRoom}
+use Rattle.text.proofs.Writing.{room-same, room-first, room-second, room-third, wrote-same, wrote-both}
 use Rattle.lines.specs.Words.{variablesWord}
 use Rattle.lines.specs.Lines.{numberLine, countsLine}
 use Rattle.table_report.specs.Parts.{functionText}
@@ -18,19 +19,17 @@ use Rattle.table_report.proofs.table_text.Tie as tie
 slice-aggregate-number-line : tie.Need-slice-aggregate-number-line
 slice-aggregate-number-line c = search needs
 
+-- Room for the parts of the report.
+parts : (c : tie.Start) → let a = c .args in
+    HasRoom (a .room .now) (a .at) (numberLine variablesWord (a .n) ++ (countsLine (length (a .on .now)) (length (a .free .now))
+    ++ functionText (a .n) (linearSpace (a .n) (completed (a .n) (a .on .now) (a .free .now))) (restriction (a .n) (linearSpace (a .n) (completed (a .n) (a .on .now) (a .free .now))) (completed (a .n) (a .on .now) (a .free .now)))))
+parts c = room-same (table-parts (c .args .n) (c .args .on .now) (c .args .free .now)) (c .pre .1)
+
 number-line-requires : tie.Need-number-line-requires
-number-line-requires c κs =
-    let s = c .before .before .before .before .before in
-    let a = s .args in
-    let r0 = room-same (table-parts (a .n) (a .on .now) (a .free .now)) (s .pre .1) in
-    room-first (numberLine variablesWord (a .n)) (countsLine (length (a .on .now)) (length (a .free .now)) ++ functionText (a .n) (linearSpace (a .n) (completed (a .n) (a .on .now) (a .free .now))) (restriction (a .n) (linearSpace (a .n) (completed (a .n) (a .on .now) (a .free .now))) (completed (a .n) (a .on .now) (a .free .now)))) r0
+number-line-requires c κs = let room = parts (c .before .before .before .before .before) in search room-first
 
 counts-line-requires : tie.Need-counts-line-requires
-counts-line-requires c κs =
-    let s = c .before .before .before .before .before .before .before .before .before in
-    let a = s .args in
-    let r0 = room-same (table-parts (a .n) (a .on .now) (a .free .now)) (s .pre .1) in
-    room-first (countsLine (length (a .on .now)) (length (a .free .now))) (functionText (a .n) (linearSpace (a .n) (completed (a .n) (a .on .now) (a .free .now))) (restriction (a .n) (linearSpace (a .n) (completed (a .n) (a .on .now) (a .free .now))) (completed (a .n) (a .on .now) (a .free .now)))) (room-then (countsLine (length (a .on .now)) (length (a .free .now)) ++ functionText (a .n) (linearSpace (a .n) (completed (a .n) (a .on .now) (a .free .now))) (restriction (a .n) (linearSpace (a .n) (completed (a .n) (a .on .now) (a .free .now))) (completed (a .n) (a .on .now) (a .free .now)))) r0 (c .before .before .before .number-line .ensures))
+counts-line-requires c κs = let room = parts (c .before .before .before .before .before .before .before .before .before) in search room-second
 
 complete-requires : tie.Need-complete-requires
 complete-requires c κs = search needs
@@ -38,12 +37,10 @@ complete-requires c κs = search needs
 flags-text-requires : tie.Need-flags-text-requires
 flags-text-requires c κs =
     let s = c .before .before .before .before .before .before .before .before .before .before .before .before .before .before .before .before in
-    let a = s .args in
-    let r0 = room-same (table-parts (a .n) (a .on .now) (a .free .now)) (s .pre .1) in
-    let r1 = room-then (countsLine (length (a .on .now)) (length (a .free .now)) ++ functionText (a .n) (linearSpace (a .n) (completed (a .n) (a .on .now) (a .free .now))) (restriction (a .n) (linearSpace (a .n) (completed (a .n) (a .on .now) (a .free .now))) (completed (a .n) (a .on .now) (a .free .now)))) r0 (c .before .before .before .before .before .before .before .before .before .before .number-line .ensures) in
-    let r2 = room-then (functionText (a .n) (linearSpace (a .n) (completed (a .n) (a .on .now) (a .free .now))) (restriction (a .n) (linearSpace (a .n) (completed (a .n) (a .on .now) (a .free .now))) (completed (a .n) (a .on .now) (a .free .now)))) r1 (c .before .before .before .before .before .before .counts-line .ensures) in
     let k = c .before .before .before .complete .ensures in
-    (completed-spans k (s .pre .0 .few), room-same (completed-text k) r2)
+    let numbers = c .before .before .before .before .before .before .before .before .before .before .number-line .ensures in
+    let rest = room-third _ _ (parts s) numbers (c .before .before .before .before .before .before .counts-line .ensures) in
+    (completed-spans k (s .pre .0 .few), room-same (completed-text k) rest)
 
 same-length : tie.Need-same-length
 same-length c = search needs
