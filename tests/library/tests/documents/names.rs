@@ -26,6 +26,13 @@ fn files_below(path: &Path) -> Vec<PathBuf> {
     }
 }
 
+/// The modules in Rust at or below a path of the repository, by their files.
+pub fn modules_in(path: &str) -> BTreeSet<String> {
+    let files = files_below(&root().join(path)).into_iter();
+    let stems = files.filter_map(|file| Some(file.file_stem()?.to_str()?.to_string()));
+    stems.collect()
+}
+
 /// The names that are defined at or below a path of the repository.
 pub fn defined_in(path: &str) -> BTreeSet<String> {
     let files = files_below(&root().join(path)).into_iter();

@@ -1,22 +1,27 @@
 //! Names in running text: what is quoted with a dash, an underscore, a colon or a
-//! capital letter inside is defined in some crate, and `crate::name` in that one.
-//! Plain words may be words of a language or of a report, and aren't looked up.
+//! capital letter inside is defined in some crate, and `crate::name` in that one,
+//! or is a module of the tests. Plain words may be words of a language or of a
+//! report, and aren't looked up.
 
 use crate::crates;
 use crate::files::documents;
-use crate::names::{defined_by, defined_in, read};
+use crate::names::{defined_by, defined_in, modules_in, read};
 use crate::tables::quoted;
 use std::collections::BTreeSet;
 
 /// Words of that form that no crate defines: packages of Debian, and variables of
 /// the environment.
-const WORDS: [&str; 5] = [
+const WORDS: [&str; 6] = [
     "berkeley-abc",
     "cargo-web",
     "GLOSPRUMA_CASES",
     "GLOSPRUMA_LIB_DIR",
     "GLOSPRUMA_SEED",
+    "GLOSPRUMA_SHARE",
 ];
+
+/// The modules that compare the calls with the reference, by their files.
+const TESTS: &str = "tests/library/tests/calls";
 
 /// Whether a word has the form of a name that is looked up.
 fn is_name(word: &str) -> bool {
@@ -34,6 +39,7 @@ fn all_names() -> BTreeSet<String> {
     let short: Vec<String> = short.map(|(_, name)| name.to_string()).collect();
     names.extend(short);
     names.extend(crates::names());
+    names.extend(modules_in(TESTS));
     names.extend(WORDS.map(str::to_string));
     names
 }
