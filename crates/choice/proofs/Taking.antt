@@ -206,6 +206,6 @@ few-points m on h o u = omega (arith, rising-length on (2 ^ m) (rising on u) (in
 pub taken-end : (m : ℕ) (on : List ℕ) (i : ℕ) (flags : List Bool) (r : Choice) → TakenTo m on i flags r → length on ≤ i → length on ≤ maxChosen → Chose m on r
 unfolding takenThrough
 taken-end m on i flags r w h l = record {
-  candidates = record { few = omega (arith, w .count, w .upto); entry = w .entry };
+  valid = record { few = omega (arith, w .count, w .upto); entry = w .entry };
   same = ap (takenThrough (primesOf m on) (chosenBy r (r .count))) (sym (drop-of-length-le on {i = i} h)) ∙ w .same;
 }

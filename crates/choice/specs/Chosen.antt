@@ -44,11 +44,11 @@ abbrev pub Marks : Candidate → List Bool → List Bool → Type 0
 Marks c flags r = (y : ℕ) → y < maxPoints → getD r y false ≡ getD flags y false || pointsOf c y
 
 -- A choice of candidates of m variables: no more than fit, each an entry of the table of bases with a least point of it.
-pub record Candidates (m : ℕ) (r : Choice) : Type 0 where
+pub record IsChoice (m : ℕ) (r : Choice) : Type 0 where
   pub few : r .count ≤ maxChosen
   pub entry : (i : ℕ) → i < r .count → EntryAt m (getD (r .degrees) i 0) (getD (r .points) i 0) (getD (r .entries) i 0)
 
 -- The value holds the primes chosen for the complete function of m variables with these on points, in the same order.
 pub record Chose (m : ℕ) (on : List ℕ) (r : Choice) : Type 0 where
-  pub candidates : Candidates m r
+  pub valid : IsChoice m r
   pub same : chosenBy r (r .count) ≡ chosen m on

@@ -1,4 +1,4 @@
--- Reading is exact. What is written is read (`encoded-walk`, `decoded`), what is read is a valid form and was written so (`form-valid`,
+-- Reading is exact. What is written is read (`decoded`), what is read is a valid form and was written so (`form-valid`,
 -- `rewritten-same`), so that bytes are accepted exactly if they encode a valid form (`form-exactly`); longer by any bytes they are refused
 -- (`form-longer`). Read next: Cutting.
 use mathlib.Core.Path.{_≡_, refl, sym, ap, _∙_, subst}

@@ -39,7 +39,7 @@ isCube zero zero (b ∷ bs) = false
 isCube zero (suc o) (b ∷ bs) = isOutput b && isCube zero o bs
 isCube (suc n) o (b ∷ bs) = isInput b && isCube n o bs
 
--- With so many inputs and outputs to come, the symbol may be the next. That a cube's symbols are taken one by one is `cube-next`.
+-- With so many inputs and outputs to come, the symbol may be the next. That a cube's symbols are taken one by one is `cube-input` and `cube-output`.
 abbrev pub takes : ℕ → ℕ → ℕ → Bool
 takes (suc n) o b = isInput b
 takes zero (suc o) b = isOutput b

@@ -14,7 +14,7 @@ use Rattle.pla_lines.specs.declared.Head.{Head}
 
 -- ---- the refusal numbers of a line
 
--- A directive is unknown, or isn't followed by the one word that it needs.
+-- A directive is unknown, or isn't followed by the words that it needs: a number of cubes by a number, a type by one that is known, the end by none.
 abbrev pub directiveFault : ℕ
 directiveFault = 31
 

@@ -16,7 +16,7 @@ ghost use Rattle.space.specs.Restriction.{equations, restriction};
 ghost use Rattle.space.specs.Witness.{flagged};
 ghost use Rattle.bases.specs.Entry.{candidateAt, EntryAt};
 ghost use Rattle.cover.specs.WrittenForm.{productBy};
-ghost use Rattle.choice.specs.Chosen.{Candidates};
+ghost use Rattle.choice.specs.Chosen.{IsChoice};
 ghost use Rattle.text.specs.Writing.{HasRoom, Wrote};
 ghost use Rattle.lines.specs.Words.{canonicalWord};
 ghost use Rattle.lines.specs.Lines.{numbersLine, equationLines, productLine};
@@ -63,7 +63,7 @@ fn choice_text(
 ) -> usize
     requires { ⌜ n ≤ maxVariables ⌝ }
     requires { ⌜ equations ≡ short (listed equations) ⌝ }
-    requires { ⌜ Candidates m choice ⌝ }
+    requires { ⌜ IsChoice m choice ⌝ }
     requires { ⌜ HasRoom (now room) at (choiceText n (listed equations) m choice) ⌝ }
     ensures { λ r. ⌜ Wrote (now (room .entry)) at (choiceText n (listed equations) m choice) (now (room .exit)) r ⌝ }
 {

@@ -67,7 +67,7 @@ module _ (n : ℕ) (on free : List ℕ) (d : Completed) (k : IsCompleted n on fr
     pub chosen-length : formLength (n - d .basis .len) r ≡ length (formBytes n on free)
     chosen-length =
         let es = equations n (vectorsOf (d .basis)) in
-        sym (form-bytes-length es (n - d .basis .len) r (h .candidates) n) ∙ ap length (chosen-bytes es refl)
+        sym (form-bytes-length es (n - d .basis .len) r (h .valid) n) ∙ ap length (chosen-bytes es refl)
 
     -- The numbers returned with it, and the room that has it at its front.
     pub chosen-numbers : (long : ℕ) → long ≡ formLength (n - d .basis .len) r → _≡_ {A = FormWritten} (record { refusal = 0; length = long; products = r .count }) (writeAccepted n on free)

@@ -12,7 +12,7 @@ use Rattle.form.specs.Encoding.{encodeProducts, encodeForm}
 use Rattle.cubes.specs.Records.{maxListed}
 use Rattle.bases.proofs.Entry.{vectors-length, entry-candidate}
 use Rattle.choice.specs.declared.Choice.{Choice}
-use Rattle.choice.specs.Chosen.{chosenAt, chosenBy, productsBy, Candidates}
+use Rattle.choice.specs.Chosen.{chosenAt, chosenBy, productsBy, IsChoice}
 use Rattle.choice.proofs.Products.{productAt, products-next, products-count}
 use Rattle.factors.proofs.Products.{product-factors}
 use Rattle.writing.specs.Products.{productsLength, formLength}
@@ -43,7 +43,7 @@ module _ (es : List ℕ) (m : ℕ) (r : Choice) where
   pub bytes-next : (i : ℕ) → encodeProducts (productsBy es m r (suc i)) ≡ encodeProducts (productsBy es m r i) ++ encodeProducts (productAt es m r i ∷ [])
   bytes-next i = ap encodeProducts (products-next es m r i) ∙ products-append (productsBy es m r i) (productAt es m r i ∷ [])
 
-  module _ (h : Candidates m r) where
+  module _ (h : IsChoice m r) where
     pub product-length-at : (i : ℕ) → i < r .count → length (productAt es m r i) ≡ m - getD (r .degrees) i 0
     product-length-at i l =
         product-factors es m (chosenAt r i) (entry-candidate (h .entry i l)) ∙ ap (λ (z : ℕ). m - z) (vectors-length (getD (r .degrees) i 0) (getD (r .entries) i 0))

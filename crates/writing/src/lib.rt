@@ -26,7 +26,7 @@ ghost use Rattle.space.specs.Witness.{flagged};
 ghost use Rattle.product.specs.Product.{factor};
 ghost use Rattle.cubes.specs.Records.{maxListed};
 ghost use Rattle.form.specs.Encoding.{encodeFactors, encodeProducts, encodeForm};
-ghost use Rattle.choice.specs.Chosen.{productsBy, Candidates, Chose};
+ghost use Rattle.choice.specs.Chosen.{productsBy, IsChoice, Chose};
 ghost use Rattle.factors.specs.Factors.{productIn, IsProduct};
 ghost use Rattle.writing.specs.Products.{productLength, productsLength, formLength};
 ghost use Rattle.writing.specs.Writing.{writeRefused, writeAnswer, writeAfter};
@@ -77,7 +77,7 @@ fn put_product(room: &mut [u8], at: usize, factors: FactorList) -> usize
 
 // The number of bytes of the form of a choice.
 fn form_length(choice: Choice, m: usize) -> usize
-    requires { ⌜ Candidates m choice ⌝ }
+    requires { ⌜ IsChoice m choice ⌝ }
     ensures { λ r. ⌜ r ≡ formLength m choice ⌝ }
 {
     let degrees = choice.degrees;
@@ -94,7 +94,7 @@ fn form_length(choice: Choice, m: usize) -> usize
 // The products of a choice, with the equations put in, behind the first record. The place behind them is returned.
 fn put_products(equations: ShortList, m: usize, choice: Choice, room: &mut [u8]) -> usize
     requires { ⌜ equations ≡ short (listed equations) ⌝ }
-    requires { ⌜ Candidates m choice ⌝ }
+    requires { ⌜ IsChoice m choice ⌝ }
     requires { ⌜ formLength m choice ≤ length (now room) ⌝ }
     ensures { λ r. ⌜ r ≡ 2 + productsLength m (choice .degrees) (choice .count) ⌝ }
     ensures { λ _. ⌜ now (room .exit) ≡ sets (now (room .entry)) 2 (encodeProducts (productsBy (listed equations) m choice (choice .count))) ⌝ }
@@ -117,7 +117,7 @@ fn put_products(equations: ShortList, m: usize, choice: Choice, room: &mut [u8])
 fn put_form(n: usize, equations: ShortList, m: usize, choice: Choice, room: &mut [u8])
     requires { ⌜ n ≤ maxVariables ⌝ }
     requires { ⌜ equations ≡ short (listed equations) ⌝ }
-    requires { ⌜ Candidates m choice ⌝ }
+    requires { ⌜ IsChoice m choice ⌝ }
     requires { ⌜ formLength m choice ≤ length (now room) ⌝ }
     ensures { λ _. ⌜ now (room .exit) ≡ front (encodeForm (record { variables = n; products = productsBy (listed equations) m choice (choice .count) })) (now (room .entry)) ⌝ }
 {

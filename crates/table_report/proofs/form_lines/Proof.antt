@@ -47,7 +47,7 @@ choice-text-requires c κs =
     let v = c .before .equations in
     let es = equations (a .n) (vectorsOf (a .basis)) in
     let same = basis-chosen (s .pre .0 .spans) (a .points .now) (omega arith) (k .result) (k .ensures) (v .result) (v .ensures) in
-    (s .pre .0 .spans .few, (short-again (v .result) es (v .ensures), (k .ensures .candidates, room-same (sym same) (s .pre .1))))
+    (s .pre .0 .spans .few, (short-again (v .result) es (v .ensures), (k .ensures .valid, room-same (sym same) (s .pre .1))))
 
 same-length-2 : tie.Need-same-length-2
 same-length-2 c = search needs

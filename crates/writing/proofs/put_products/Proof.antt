@@ -12,7 +12,7 @@ use Rattle.product.specs.Product.{Factor}
 use Rattle.form.specs.Encoding.{encodeProducts}
 use Rattle.bases.proofs.Entry.{entry-candidate}
 use Rattle.choice.specs.declared.Choice.{Choice}
-use Rattle.choice.specs.Chosen.{chosenAt, chosenBy, productsBy, Candidates}
+use Rattle.choice.specs.Chosen.{chosenAt, chosenBy, productsBy, IsChoice}
 use Rattle.choice.proofs.Products.{productAt}
 use Rattle.factors.specs.declared.FactorList.{FactorList}
 use Rattle.factors.specs.Factors.{factorsOf, productIn, IsProduct}
@@ -24,7 +24,7 @@ use Rattle.writing.proofs.put_products.Statement.{statement}
 use Rattle.writing.proofs.put_products.Tie as tie
 
 -- The product of the next candidate, as a value.
-module _ (es : List ℕ) (m : ℕ) (r : Choice) (h : Candidates m r) (i : ℕ) (l : i < r .count) (v : FactorList) (e : v ≡ factorsOf (productAt es m r i)) where
+module _ (es : List ℕ) (m : ℕ) (r : Choice) (h : IsChoice m r) (i : ℕ) (l : i < r .count) (v : FactorList) (e : v ≡ factorsOf (productAt es m r i)) where
   is : IsProduct v
   is = subst IsProduct (sym e) (is-product (productAt es m r i) (product-binary es m (chosenAt r i) (entry-candidate (h .entry i l))))
 

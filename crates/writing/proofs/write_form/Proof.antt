@@ -85,7 +85,7 @@ put-form-requires c κs =
       accepted (a .n) (a .on .now) (a .free .now) ok .few,
       (
         short-again (e .result) (equations (a .n) (vectorsOf (d .result .basis))) (e .ensures),
-        (r .ensures .candidates, omega (arith, c .before .before .before .form-length .ensures)),
+        (r .ensures .valid, omega (arith, c .before .before .before .form-length .ensures)),
       ),
     )
 
