@@ -2,7 +2,8 @@
 //! definitions, functions and must-fail edits are defined in the crate or file
 //! named beside them (`proved`, `specification`), names in running text somewhere
 //! (`prose`), calls and refusal numbers are those of the code and of the header
-//! (`calls`), every crate has its row (`crates`), and files exist (`files`).
+//! (`calls`), every crate has its row (`crates`), and files exist (`files`). So do
+//! the theorems that comments of the crates quote (`comments`).
 //!
 //! Every check returns what it finds wrong, so that it can be tried on a document
 //! with a mistake in it: misspelt, each name that a check reads is found.
@@ -11,6 +12,7 @@ mod names;
 mod tables;
 
 mod calls;
+mod comments;
 mod crates;
 mod files;
 mod prose;

@@ -48,6 +48,22 @@ pub fn defined_in(path: &str) -> BTreeSet<String> {
         .collect()
 }
 
+/// The lines of comment in the files of antt and Rattle at or below a path of the
+/// repository.
+pub fn comments_in(path: &str) -> Vec<String> {
+    let is_code =
+        |file: &PathBuf| matches!(file.extension(), Some(end) if end == "antt" || end == "rt");
+    let is_comment = |line: &&str| line.starts_with("--") || line.starts_with("//");
+    let files = files_below(&root().join(path)).into_iter().filter(is_code);
+    let texts = files.map(|file| fs::read_to_string(file).expect("a text file"));
+    texts
+        .flat_map(|text| {
+            let lines = text.lines().map(str::trim_start).filter(is_comment);
+            lines.map(str::to_string).collect::<Vec<String>>()
+        })
+        .collect()
+}
+
 /// The names that a crate defines.
 pub fn defined_by(name: &str) -> BTreeSet<String> {
     defined_in(&format!("crates/{name}"))
