@@ -1,6 +1,5 @@
 -- `stored::stored_fault` meets its contract: at each return the tests up to it are known, and the list of tests computes. Assumes nothing.
-use mathlib.Core.Path.{_≡_, sym, ap, _∙_}
-use mathlib.Core.Bool.{Bool}
+use mathlib.Core.Path.{sym, ap, _∙_}
 use native.Mathlib.Omega.{arith}
 use borrow.Author.Needs.{needs}
 use Rattle.table.specs.Refusal.{firstFault}
@@ -12,10 +11,6 @@ use Rattle.stored.proofs.Laying.{table-length}
 use Rattle.stored.proofs.Accepting.{stored-layout, layout-laid}
 use Rattle.stored.proofs.stored_fault.Statement.{statement}
 use Rattle.stored.proofs.stored_fault.Tie as tie
-
--- What a call was found to return is so of the test that its contract names.
-known : {r t v : Bool} → r ≡ t → r ≡ v → t ≡ v
-known p q = sym p ∙ q
 
 walk-table-requires : tie.Need-walk-table-requires
 walk-table-requires c κs = search needs
@@ -48,19 +43,19 @@ returns-2 : tie.Need-returns-2
 unfolding storedFault firstFault
 returns-2 c =
     let b = c .before in
-    rw (laid (b .before .before), known (b .bad-count .ensures) (c .if2 .taken))
+    rw (laid (b .before .before), sym (b .bad-count .ensures) ∙ c .if2 .taken)
 
 points-outside-requires : tie.Need-points-outside-requires
 points-outside-requires c κs =
     let b = c .before in
-    (laid (b .before .before), good-count _ .0 (known (b .bad-count .ensures) (c .if2 .left)) .1)
+    (laid (b .before .before), good-count _ .0 (sym (b .bad-count .ensures) ∙ c .if2 .left) .1)
 
 returns-3 : tie.Need-returns-3
 unfolding storedFault firstFault
 returns-3 c =
     let o = c .before in
     let b = o .before .before in
-    rw (laid (b .before .before), known (b .bad-count .ensures) (o .before .if2 .left), known (o .points-outside .ensures) (c .if3 .taken))
+    rw (laid (b .before .before), sym (b .bad-count .ensures) ∙ o .before .if2 .left, sym (o .points-outside .ensures) ∙ c .if3 .taken)
 
 points-unordered-requires : tie.Need-points-unordered-requires
 points-unordered-requires c κs = laid (c .before .before .before .before .before)
@@ -73,9 +68,9 @@ returns-4 c =
     let b = o .before .before in
     rw (
       laid (b .before .before),
-      known (b .bad-count .ensures) (o .before .if2 .left),
-      known (o .points-outside .ensures) (u .before .if3 .left),
-      known (u .points-unordered .ensures) (c .if4 .taken),
+      sym (b .bad-count .ensures) ∙ o .before .if2 .left,
+      sym (o .points-outside .ensures) ∙ u .before .if3 .left,
+      sym (u .points-unordered .ensures) ∙ c .if4 .taken,
     )
 
 returns-5 : tie.Need-returns-5
@@ -86,9 +81,9 @@ returns-5 c =
     let b = o .before .before in
     rw (
       laid (b .before .before),
-      known (b .bad-count .ensures) (o .before .if2 .left),
-      known (o .points-outside .ensures) (u .before .if3 .left),
-      known (u .points-unordered .ensures) (c .if4 .left),
+      sym (b .bad-count .ensures) ∙ o .before .if2 .left,
+      sym (o .points-outside .ensures) ∙ u .before .if3 .left,
+      sym (u .points-unordered .ensures) ∙ c .if4 .left,
     )
 
 pub stored-fault-spec : {M : Type 1} → statement M
