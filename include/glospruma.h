@@ -107,8 +107,8 @@ typedef struct {
     uint8_t refusal;
     size_t count;  /* points written */
     size_t degree; /* of the completed function */
-    size_t low;    /* k0, the degree with all free points off */
-    size_t high;   /* k1, the degree with all free points on */
+    size_t k0;     /* the degree with all free points off */
+    size_t k1;     /* the degree with all free points on */
 } glospruma_completion;
 
 /* The completed function's on points, rising, into the room. Refusals 1, 2, 3, 4; 7. */

@@ -84,9 +84,9 @@ pub struct Completion {
     /// The degree of the completed function.
     pub degree: usize,
     /// The degree k0, with all free points off.
-    pub low: usize,
+    pub k0: usize,
     /// The degree k1, with all free points on.
-    pub high: usize,
+    pub k1: usize,
 }
 
 /// Numbers of [`analyse`].

@@ -42,9 +42,9 @@ pub struct Completion<'a> {
     /// Its degree.
     pub degree: usize,
     /// The degree k0, with all free points off.
-    pub low: usize,
+    pub k0: usize,
     /// The degree k1, with all free points on.
-    pub high: usize,
+    pub k1: usize,
 }
 
 /// Completes a table; the on points of the completed function go to the room.
@@ -57,7 +57,7 @@ pub struct Completion<'a> {
 ///
 /// let mut room = [0; 4];
 /// let found = complete(2, &[0], &[1], &mut room)?;
-/// assert_eq!((found.points, found.low, found.high), (&[0, 1][..], 0, 1));
+/// assert_eq!((found.points, found.k0, found.k1), (&[0, 1][..], 0, 1));
 /// assert_eq!(complete(2, &[0], &[0], &mut room), Err(Refusal::Shared));
 /// # Ok::<(), Refusal>(())
 /// ```
@@ -72,8 +72,8 @@ pub fn complete<'a>(
     Ok(Completion {
         points: &room[..found.count],
         degree: found.degree,
-        low: found.low,
-        high: found.high,
+        k0: found.k0,
+        k1: found.k1,
     })
 }
 

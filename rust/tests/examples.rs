@@ -188,7 +188,7 @@ fn p7_smallest_affine_space() {
 fn p8_degrees_of_both_completions() {
     let mut room = vec![9; 2];
     let found = complete(2, &[0], &[1, 2], &mut room).expect("accepted");
-    assert_eq!((found.degree, found.low, found.high), (0, 0, 0));
+    assert_eq!((found.degree, found.k0, found.k1), (0, 0, 0));
     assert_eq!(found.points, [0]);
     assert_eq!(room[1], 9);
 }

@@ -307,7 +307,7 @@ static void p8(void) {
     static const uint16_t on_points[] = {0}, free_points[] = {1, 2};
     points on = point_list(on_points, 1), others = point_list(free_points, 2), room = point_room(3);
     glospruma_completion found = glospruma_complete(2, on.points, on.length, others.points, others.length, room.points, room.length);
-    CHECK(found.refusal == GLOSPRUMA_ACCEPTED && found.count == 1 && found.degree == 0 && found.low == 0 && found.high == 0);
+    CHECK(found.refusal == GLOSPRUMA_ACCEPTED && found.count == 1 && found.degree == 0 && found.k0 == 0 && found.k1 == 0);
     CHECK(points_are(room, on_points, 1));
     free(on.points);
     free(others.points);
@@ -351,7 +351,7 @@ static void check_refused_table(faulty table) {
     glospruma_form_written form =
         glospruma_write_form(table.n, on.points, on.length, others.points, others.length, byte_rest.bytes, byte_rest.length);
     CHECK(completion.refusal == table.refusal && completion.count == 0 && completion.degree == 0);
-    CHECK(completion.low == 0 && completion.high == 0);
+    CHECK(completion.k0 == 0 && completion.k1 == 0);
     CHECK(analysis.refusal == table.refusal && analysis.degree == 0 && analysis.count == 0);
     CHECK(basis_is(&analysis.basis, NULL, 0) && list_is(&analysis.canonical, NULL, 0) && list_is(&analysis.equations, NULL, 0));
     CHECK(listed.refusal == table.refusal && listed.next == 0 && listed.passed == 0 && listed.records == 0);

@@ -28,7 +28,7 @@ pub record IsBasis (b : Basis) : Type 0 where
   pub packed : b ≡ basisOf (vectorsOf b)
 
 -- A basis of vectors of n variables.
-pub record Spans (n : ℕ) (b : Basis) : Type 0 where
+pub record BasisWithin (n : ℕ) (b : Basis) : Type 0 where
   pub few : n ≤ maxVariables
   pub basis : IsBasis b
   pub below : (c : ℕ) → Mem c (vectorsOf b) → c < 2 ^ n

@@ -33,7 +33,7 @@ use Rattle.cover.proofs.Steps.{through-covered, through-none, through-taken, co
 use Rattle.choice.specs.declared.Found.{Found}
 use Rattle.choice.specs.declared.Choice.{Choice}
 use Rattle.choice.specs.Search.{Search, foundOf}
-use Rattle.choice.specs.Chosen.{maxChosen, chosenBy, added, Marks, Chose}
+use Rattle.choice.specs.Chosen.{maxChosen, chosenBy, added, MarksPrime, Chose}
 
 -- ---- what is found, as a list
 
@@ -80,7 +80,7 @@ module _ (c : Candidate) (flags r : List Bool) (x : ℕ) (w : MarkedTo c flags x
     ]);
   }
 
-pub marked-end : {m d p e : ℕ} → EntryAt m d p e → (flags r : List Bool) (x : ℕ) → 2 ^ m ≤ x → MarkedTo (candidateAt d p e) flags x r → Marks (candidateAt d p e) flags r
+pub marked-end : {m d p e : ℕ} → EntryAt m d p e → (flags r : List Bool) (x : ℕ) → 2 ^ m ≤ x → MarkedTo (candidateAt d p e) flags x r → MarksPrime (candidateAt d p e) flags r
 marked-end {m} {d} {p} {e} k flags r x h w y l =
     w .marks y l ∙ ap (λ (z : Bool). getD flags y false || z) (elim (decLe x y) [
       | yes g ↦ rw (beyond g) (and-false (ltb y x))
@@ -178,7 +178,7 @@ module _ (m : ℕ) (on : List ℕ) (i : ℕ) (flags : List Bool) (r : Choice) (w
     taken-nothing a = unchanged (through-none (primesOf m on) so-far (getD on i 0) (drop (i + 1) on) t (sym q ∙ found-none f a))
 
     pub taken-one : f .any ≡ true → EntryAt m (f .degree) (f .point) (f .entry) → r .count < maxChosen
-        → (u : List Bool) → Marks (candidateAt (f .degree) (f .point) (f .entry)) flags u → TakenTo m on (i + 1) u (added r (f .degree) (f .point) (f .entry))
+        → (u : List Bool) → MarksPrime (candidateAt (f .degree) (f .point) (f .entry)) flags u → TakenTo m on (i + 1) u (added r (f .degree) (f .point) (f .entry))
     taken-one a k room u marks =
         let hd : r .count < length (r .degrees) = omega (arith, w .long .degrees) in
         let hp : r .count < length (r .points) = omega (arith, w .long .points) in

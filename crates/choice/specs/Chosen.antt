@@ -40,8 +40,8 @@ added r degree point entry = record {
 }
 
 -- The flags of r: those of the candidate's points set, and the others as they were.
-abbrev pub Marks : Candidate → List Bool → List Bool → Type 0
-Marks c flags r = (y : ℕ) → y < maxPoints → getD r y false ≡ getD flags y false || pointsOf c y
+abbrev pub MarksPrime : Candidate → List Bool → List Bool → Type 0
+MarksPrime c flags r = (y : ℕ) → y < maxPoints → getD r y false ≡ getD flags y false || pointsOf c y
 
 -- A choice of candidates of m variables: no more than fit, each an entry of the table of bases with a least point of it.
 pub record IsChoice (m : ℕ) (r : Choice) : Type 0 where

@@ -20,7 +20,7 @@ ghost use Rattle.masks.specs.Points.{primeBy};
 ghost use Rattle.bases.specs.Entry.{candidateAt, EntryAt};
 ghost use Rattle.cover.specs.Choice.{firstHolding};
 ghost use Rattle.choice.specs.Search.{Positive, Search, foundOf, FoundAt, betterOf};
-ghost use Rattle.choice.specs.Chosen.{maxChosen, added, Marks, Chose};
+ghost use Rattle.choice.specs.Chosen.{maxChosen, added, MarksPrime, Chose};
 
 // ---- the least point of a coset
 
@@ -166,7 +166,7 @@ fn mark_prime(
     mut flags: [bool; MAX_POINTS],
 ) -> [bool; MAX_POINTS]
     requires { ⌜ EntryAt m d point entry ⌝ }
-    ensures { λ r. ⌜ Marks (candidateAt d point entry) flags r ⌝ }
+    ensures { λ r. ⌜ MarksPrime (candidateAt d point entry) flags r ⌝ }
 {
     let size = table::point_count(m);
     let mut x: u16 = 0;

@@ -9,7 +9,7 @@ use Rattle.gf2.specs.Basis.{clear, reduce, place, join, insert, inserts, reduce
 use Rattle.table.specs.Refusal.{firstFault}
 use Rattle.table.specs.Table.{tableTests, badCount, outside, notAbove, unordered, shared}
 use Rattle.space.specs.Closure.{closed, linearSpace, degree}
-use Rattle.space.specs.Completion.{allOn, lowDegree, highDegree, completed}
+use Rattle.space.specs.Completion.{allOn, k0, k1, completed}
 use Rattle.space.specs.Restriction.{equation, equations, number, project, clean, restriction}
 use Rattle.space.specs.Affine.{directions, leastPoint, projection}
 use Rattle.form.specs.Encoding.{encodeFactors, encodeProducts, encodeForm}
@@ -46,7 +46,7 @@ pub tableOf : ℕ → List ℕ → List ℕ → Table
 tableOf n on free = record { variables = n; on = on; free = free }
 
 pub reply : Question → Reply
-reply (degrees n on free) = numbers (lowDegree n on ∷ highDegree n on free ∷ [])
+reply (degrees n on free) = numbers (k0 n on ∷ k1 n on free ∷ [])
 reply (analysis n on free) =
     let f = completed n on free in
     let bs = linearSpace n f in

@@ -21,7 +21,7 @@ use Rattle.form.specs.Form.{Form, ValidForm, formAt, formPoints}
 use Rattle.product.specs.Product.{Factor}
 use Rattle.form.specs.Encoding.{encodeFactors, encodeProducts, encodeForm}
 use Rattle.form.specs.Decoding.{decodeForm}
-use Rattle.form.specs.Reading.{formFault, pointsOf, rewritten}
+use Rattle.form.specs.Reading.{formFault, pointsRead, rewritten}
 use Rattle.form.proofs.Encodings.{decoded, encoded-form}
 use Rattle.cubes.specs.Records.{maxListed}
 use Rattle.cover.specs.WrittenForm.{writtenForm, formSizeFault}
@@ -90,7 +90,7 @@ module _ (n : ℕ) (on free : List ℕ) (a : Accepted n on free) (small : formSi
     unfolding formBytes layoutOf firstFault
     bytes-accepted = ap formFault q ∙ rw (encoded-form tableForm written-valid)
 
-    pub bytes-points : pointsOf bytes ≡ completedPoints n on free
+    pub bytes-points : pointsRead bytes ≡ completedPoints n on free
     bytes-points = ap formPoints bytes-decoded ∙ written-points
 
     pub bytes-again : rewritten bytes ≡ bytes

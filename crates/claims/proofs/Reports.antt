@@ -24,7 +24,7 @@ use Rattle.space.proofs.Completion.{completed-rising, completed-points, complet
 use Rattle.space.proofs.Restriction.{restriction-length, linear-equations}
 use Rattle.form.specs.declared.FormPoints.{FormPoints}
 use Rattle.form.specs.declared.FormRewrite.{FormRewrite}
-use Rattle.form.specs.Reading.{pointsOf, rewritten}
+use Rattle.form.specs.Reading.{pointsRead, rewritten}
 use Rattle.form.proofs.Answering.{points-ways, rewrite-ways}
 use Rattle.cover.specs.WrittenForm.{formSizeFault}
 use Rattle.writing.specs.declared.FormWritten.{FormWritten}
@@ -46,7 +46,7 @@ pub record Defined (n : ℕ) (on free : List ℕ) (r : Reported) : Type 0 where
   pub restriction : r .restriction ≡ completedRestriction n on free
   pub alone : r .alone ≡ completedSpace n on free
   pub form : formSizeFault n on free ≡ false → r .form ≡ formBytes n on free
-  pub back : formSizeFault n on free ≡ false → r .back ≡ pointsOf (r .form)
+  pub back : formSizeFault n on free ≡ false → r .back ≡ pointsRead (r .form)
   pub again : formSizeFault n on free ≡ false → r .again ≡ rewritten (r .form)
 
 -- ---- each call
@@ -115,7 +115,7 @@ module _ (n : ℕ) (on free room bytes : List ℕ) (a : Accepted n on free) (eno
     alone = ap (λ (l : List ℕ). vectorsOf (linearSpaceAnswer n l .basis)) points ∙ alone;
     form = written;
     back = λ small.
-        handed (λ (x : FormPoints). x .count) (pointsOf form) room refl
+        handed (λ (x : FormPoints). x .count) (pointsRead form) room refl
         (points-ways form room .whole (bytes-accepted n on free a small form (written small))
         (omega (arith, ap length (bytes-points n on free a small form (written small)), few-points)) _ _ refl refl);
     again = λ small.

@@ -15,7 +15,7 @@ use Rattle.stored.specs.Marks.{storedVariables, storedOn, storedFree}
 use Rattle.stored.specs.Stored.{storedTests, storedFault}
 use Rattle.stored.specs.Reading.{readTests, acceptedRead, refusedRead, readAnswer, onAfter, freeAfter}
 use Rattle.space.specs.Completion.{completedPoints}
-use Rattle.form.specs.Reading.{pointsOf, pointsTests, acceptedPoints, refusedPoints, pointsAnswer, pointsAfter, rewritten, rewriteTests, acceptedRewrite, refusedRewrite, rewriteAnswer, rewriteAfter}
+use Rattle.form.specs.Reading.{pointsRead, pointsTests, acceptedPoints, refusedPoints, pointsAnswer, pointsAfter, rewritten, rewriteTests, acceptedRewrite, refusedRewrite, rewriteAnswer, rewriteAfter}
 use Rattle.cubes.specs.Lists.{keep}
 use Rattle.cubes.specs.Records.{recordsOf}
 use Rattle.cubes.specs.Listing.{Call, listing, listingTests, accepting, refusing, answer, listingRoom}
@@ -24,7 +24,7 @@ use Rattle.table_report.specs.Text.{refusedLine, tableText}
 use Rattle.report.specs.Report.{reportText}
 use Rattle.report.specs.Answer.{reportTests, reportAccepted, reportRefused, reportAnswer, reportAfter}
 use Rattle.glospruma.specs.Spaces.{linearSpaceTests, linearSpaceAccepted, linearSpaceRefused, linearSpaceAnswer, completeTests, completeAccepted, completeRefused, completeAnswer, completeRoom, completedRestriction, analyseTests, analyseAccepted, analyseRefused, analyseAnswer, analyseRoom}
-use Rattle.glospruma.specs.Affine.{projected, affineTests, affineAccepted, affineRefused, affineAnswer, affineRoom}
+use Rattle.glospruma.specs.Affine.{affineProjection, affineTests, affineAccepted, affineRefused, affineAnswer, affineRoom}
 
 -- ---- one call
 
@@ -74,7 +74,7 @@ pub record Demand1 : Type 0 where
   pub affine : (n : ℕ) (on lent : List ℕ)
       → Decides (1 ∷ 2 ∷ 3 ∷ 4 ∷ 6 ∷ 7 ∷ []) (affineTests n on lent) (affineAnswer n on lent .refusal)
       (affineAccepted n on) affineRefused (affineAnswer n on lent)
-      (room (projected n on) lent (affineRoom n on lent) ∷ [])
+      (room (affineProjection n on) lent (affineRoom n on lent) ∷ [])
   -- The two calls that take on points alone have no free points, so that their test of number 4 never applies.
   pub never-shared : (on : List ℕ) → shared on [] ≡ false
   pub write-form : (n : ℕ) (on free lent : List ℕ)
@@ -89,7 +89,7 @@ pub record Demand1 : Type 0 where
   pub form-points : (bytes lent : List ℕ)
       → Decides (8 ∷ 7 ∷ []) (pointsTests bytes lent) (pointsAnswer bytes lent .refusal)
       (acceptedPoints bytes) refusedPoints (pointsAnswer bytes lent)
-      (room (pointsOf bytes) lent (pointsAfter bytes lent) ∷ [])
+      (room (pointsRead bytes) lent (pointsAfter bytes lent) ∷ [])
   pub form-rewrite : (bytes lent : List ℕ)
       → Decides (8 ∷ 7 ∷ []) (rewriteTests bytes lent) (rewriteAnswer bytes lent .refusal)
       (acceptedRewrite bytes) refusedRewrite (rewriteAnswer bytes lent)

@@ -21,7 +21,7 @@ use Rattle.gf2.proofs.Reduce.{reduce-xor, reduce-le, reduce-zero, reduce-coset}
 use Rattle.gf2.proofs.Variables.{places-falling, noncanonical-mem, noncanonical-length}
 use Rattle.space.specs.Restriction.{equation}
 use Rattle.space.proofs.Restriction.{reduce-bits, reduce-clean, clean-same, equation-below}
-use Rattle.product.specs.Product.{Factor, factor, factorAt, productAt, AllFit, Apart, Canonical}
+use Rattle.product.specs.Product.{Factor, factor, factorAt, productAt, AllFit, LowestApart, Canonical}
 use Rattle.product.proofs.LowestBit.{lowest-eq, lowest-pos}
 use Rattle.product.proofs.Product.{factor-is, product-is, canonical-separate, canonical-is}
 use Rattle.product.proofs.Unique.{canonical-unique}
@@ -87,10 +87,10 @@ module _ (m : ℕ) (c : Candidate) (k : IsCandidate m c) where
   pub product-canonical : Canonical (canonicalProduct m c)
   unfolding canonicalProduct placeFactor
   product-canonical = canonical-is (canonicalProduct m c) .0 (canonical-separate (canonicalProduct m c) .1
-      (ordered-map (λ (i j : ℕ). j < i) (λ (f g : Factor). Apart (f .mask) (g .mask)) (placeFactor c) (noncanonicalPlaces m (c .vectors)) separate
+      (ordered-map (λ (i j : ℕ). j < i) (λ (f g : Factor). LowestApart (f .mask) (g .mask)) (placeFactor c) (noncanonicalPlaces m (c .vectors)) separate
       (places-falling (λ i. not (isLead (c .vectors) i)) m)))
     where
-      separate : (i j : ℕ) → Mem i (noncanonicalPlaces m (c .vectors)) → Mem j (noncanonicalPlaces m (c .vectors)) → j < i → Apart (equation (c .vectors) i) (equation (c .vectors) j)
+      separate : (i j : ℕ) → Mem i (noncanonicalPlaces m (c .vectors)) → Mem j (noncanonicalPlaces m (c .vectors)) → j < i → LowestApart (equation (c .vectors) i) (equation (c .vectors) j)
       separate i j mi mj h =
           let ni = noncanonical-mem m (c .vectors) i mi .1 in
           let nj = noncanonical-mem m (c .vectors) j mj .1 in

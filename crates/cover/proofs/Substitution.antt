@@ -26,7 +26,7 @@ use Rattle.gf2.proofs.Variables.{places-falling, noncanonical-mem}
 use Rattle.space.specs.Restriction.{equation, equations, number, values}
 use Rattle.space.proofs.Restriction.{number-step, number-below, equations-mem}
 use Rattle.product.specs.Lowest.{Lowest, lowest}
-use Rattle.product.specs.Product.{Factor, factorAt, productAt, AllFit, Apart, Canonical}
+use Rattle.product.specs.Product.{Factor, factorAt, productAt, AllFit, LowestApart, Canonical}
 use Rattle.product.proofs.LowestBit.{lowest-is, lowest-eq, lowest-pos, lowest-fits}
 use Rattle.product.proofs.Product.{separate, canonical-separate, canonical-is}
 use Rattle.cover.specs.Substitution.{substituteMask, substituteFactor, substituteProduct}
@@ -197,9 +197,9 @@ module _ (n : ℕ) (bs : List ℕ) (r : Reduced bs) where
   pub substitute-canonical : (fs : List Factor) → AllFit (length (noncanonicalPlaces n bs)) fs → Canonical fs → Canonical (substituteProduct (equations n bs) fs)
   unfolding substituteProduct substituteFactor
   substitute-canonical fs a c = canonical-is (substituteProduct (equations n bs) fs) .0 (canonical-separate (substituteProduct (equations n bs) fs) .1
-      (ordered-map (λ (f g : Factor). Apart (f .mask) (g .mask)) (λ (f g : Factor). Apart (f .mask) (g .mask)) (substituteFactor (equations n bs)) fs apart (separate fs c)))
+      (ordered-map (λ (f g : Factor). LowestApart (f .mask) (g .mask)) (λ (f g : Factor). LowestApart (f .mask) (g .mask)) (substituteFactor (equations n bs)) fs apart (separate fs c)))
     where
-      apart : (f g : Factor) → Mem f fs → Mem g fs → Apart (f .mask) (g .mask) → Apart (substituteMask (equations n bs) (f .mask)) (substituteMask (equations n bs) (g .mask))
+      apart : (f g : Factor) → Mem f fs → Mem g fs → LowestApart (f .mask) (g .mask) → LowestApart (substituteMask (equations n bs) (f .mask)) (substituteMask (equations n bs) (g .mask))
       apart f g mf mg h =
           let u = substitute-image (f .mask) (a f mf .some) (a f mf .below) in
           let v = substitute-image (g .mask) (a g mg .some) (a g mg .below) in

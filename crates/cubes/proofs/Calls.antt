@@ -17,13 +17,13 @@ use Rattle.cubes.specs.Lists.{keep}
 use Rattle.cubes.specs.Cubes.{Candidate, degree, pointsOf, Only}
 use Rattle.cubes.specs.Candidates.{Before, candidates}
 use Rattle.cubes.specs.Records.{maxListed, recordLength, recordOf, recordsOf}
-use Rattle.cubes.specs.Listing.{Table, Call, primeOf, listingFault, accepted, Listed, listing, Answer, accepting, answer, listingRoom}
+use Rattle.cubes.specs.Listing.{Table, Call, primeOf, listingFault, accepted, ListingRule, listing, Answer, accepting, answer, listingRoom}
 use Rattle.cubes.specs.Calls.{handedOver, Obeyed, Refused, advance, reached, Consecutive, sumOf, primesBehind, endOf, able, PrimeOf, Demand3}
 use Rattle.cubes.proofs.Lists.{keep-mem, mem-keep, take-mem, keep-append, ordered-keep, ordered-take, ordered-with}
 use Rattle.cubes.proofs.Cubes.{degree-most}
 use Rattle.cubes.proofs.Candidates.{candidate-is, before-not, candidates-ordered, candidate-only}
 use Rattle.cubes.proofs.Primes.{prime-is, prime-same}
-use Rattle.cubes.proofs.Listing.{records-append, records-length, record-one, listed-moves, accepted-is, accepted-small, accepted-place, answer-on, answer-off, room-on, room-off, call-listed}
+use Rattle.cubes.proofs.Listing.{records-append, records-length, record-one, rule-moves, accepted-is, accepted-small, accepted-place, answer-on, answer-off, room-on, room-off, call-rule}
 
 -- ---- one call
 
@@ -42,8 +42,8 @@ call-obeyed c e = record {
     a : answer c ≡ accepting (c .place) (listing c)
     a = answer-on c e
 
-    r : Listed (primeOf (c .table)) (drop (c .place) (candidates (c .table .variables))) (c .allowance) (length (c .room)) (listing c)
-    r = call-listed c
+    r : ListingRule (primeOf (c .table)) (drop (c .place) (candidates (c .table .variables))) (c .allowance) (length (c .room)) (listing c)
+    r = call-rule c
 
     number : answer c .records ≡ length (listing c .primes)
     number = ap (λ (a : Answer). a .records) a
@@ -106,7 +106,7 @@ pub able-moves : (c : Call) → able c ≡ true → c .place < endOf (c .table) 
 able-moves c a h =
     let b = able-is c a in
     let o = call-obeyed c (b .0) in
-    let m = listed-moves (o .rule) (omega (arith, length-drop (c .place) (candidates (c .table .variables)))) (b .1) (b .2) in
+    let m = rule-moves (o .rule) (omega (arith, length-drop (c .place) (candidates (c .table .variables)))) (b .1) (b .2) in
     omega (arith, o .next, o .passed)
 
 -- What a call adds at the place: to the place, to the records, and to what is handed over.

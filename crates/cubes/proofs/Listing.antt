@@ -22,7 +22,7 @@ use Rattle.cubes.specs.Lists.{keep}
 use Rattle.cubes.specs.Cubes.{Candidate, candidate, degree}
 use Rattle.cubes.specs.Candidates.{candidates, candidateCount}
 use Rattle.cubes.specs.Records.{maxListed, recordLength, recordOf, recordsOf}
-use Rattle.cubes.specs.Listing.{Call, primeOf, listingTests, listingFault, accepted, Passage, nothing, passing, writing, passage, Full, Listed, listing, refusing, accepting, answer, listingRoom}
+use Rattle.cubes.specs.Listing.{Call, primeOf, listingTests, listingFault, accepted, Passage, nothing, passing, writing, passage, Full, ListingRule, listing, refusing, accepting, answer, listingRoom}
 use Rattle.cubes.proofs.Lists.{keep-append, flatMap-append}
 
 -- ---- records
@@ -58,15 +58,15 @@ record-one a b e =
 
 -- ---- the listing rule
 
-pub passage-listed : (prime : Candidate → Bool) (cs : List Candidate) (a m : ℕ) → Listed prime cs a m (passage prime cs a m)
+pub passage-rule : (prime : Candidate → Bool) (cs : List Candidate) (a m : ℕ) → ListingRule prime cs a m (passage prime cs a m)
 unfolding passage keep
-passage-listed prime [] a m = record { along = zero-le; paid = zero-le; found = refl; fits = zero-le; stops = inl refl }
-passage-listed prime (c ∷ cs) zero m = record { along = zero-le; paid = zero-le; found = refl; fits = zero-le; stops = inr (inl refl) }
-passage-listed prime (c ∷ cs) (suc a) m = go (prime c) refl (ltb m recordLength) refl (passage-listed prime cs a (m - recordLength)) (passage-listed prime cs a m)
+passage-rule prime [] a m = record { along = zero-le; paid = zero-le; found = refl; fits = zero-le; stops = inl refl }
+passage-rule prime (c ∷ cs) zero m = record { along = zero-le; paid = zero-le; found = refl; fits = zero-le; stops = inr (inl refl) }
+passage-rule prime (c ∷ cs) (suc a) m = go (prime c) refl (ltb m recordLength) refl (passage-rule prime cs a (m - recordLength)) (passage-rule prime cs a m)
   where
     go : (t : Bool) → prime c ≡ t → (u : Bool) → ltb m recordLength ≡ u
-        → Listed prime cs a (m - recordLength) (passage prime cs a (m - recordLength)) → Listed prime cs a m (passage prime cs a m)
-        → Listed prime (c ∷ cs) (suc a) m (cond t (cond u nothing (writing c (passage prime cs a (m - recordLength)))) (passing (passage prime cs a m)))
+        → ListingRule prime cs a (m - recordLength) (passage prime cs a (m - recordLength)) → ListingRule prime cs a m (passage prime cs a m)
+        → ListingRule prime (c ∷ cs) (suc a) m (cond t (cond u nothing (writing c (passage prime cs a (m - recordLength)))) (passing (passage prime cs a m)))
     go true e true l i j = record {
       along = zero-le;
       paid = zero-le;
@@ -95,9 +95,9 @@ passage-listed prime (c ∷ cs) (suc a) m = go (prime c) refl (ltb m recordLengt
 
 module _ {prime : Candidate → Bool} {ahead : List Candidate} {allowance room : ℕ} where
   -- With candidates ahead, an allowance and room for a record, it moves on.
-  pub listed-moves : {p : Passage} → Listed prime ahead allowance room p → 0 < length ahead → 0 < allowance → recordLength ≤ room → 0 < p .passed
+  pub rule-moves : {p : Passage} → ListingRule prime ahead allowance room p → 0 < length ahead → 0 < allowance → recordLength ≤ room → 0 < p .passed
   unfolding keep
-  listed-moves {p} l h k r = go (p .passed) refl
+  rule-moves {p} l h k r = go (p .passed) refl
     where
       go : (i : ℕ) → p .passed ≡ i → 0 < p .passed
       go (suc i) e = omega arith
@@ -110,7 +110,7 @@ module _ {prime : Candidate → Bool} {ahead : List Candidate} {allowance room :
           ]
 
   -- Two passages that obey the rule are one.
-  no-further : {p q : Passage} → Listed prime ahead allowance room p → Listed prime ahead allowance room q → p .passed < q .passed → ⊥
+  no-further : {p q : Passage} → ListingRule prime ahead allowance room p → ListingRule prime ahead allowance room q → p .passed < q .passed → ⊥
   unfolding keep
   no-further {p} {q} k l h = elim (k .stops) [
     | inl s ↦ omega (arith, l .along)
@@ -128,8 +128,8 @@ module _ {prime : Candidate → Bool} {ahead : List Candidate} {allowance room :
           ∙ ap₂ _++_ (sym (k .found)) (ap (λ x. keep prime (take (suc j) x)) (s .first) ∙ rw (s .is-prime)) in
           omega (arith, l .fits, s .short, ap length f, length-append (p .primes) (s .next ∷ keep prime (take j (s .others))))
 
-  pub listed-only : {p q : Passage} → Listed prime ahead allowance room p → Listed prime ahead allowance room q → p ≡ q
-  listed-only {p} {q} k l =
+  pub rule-only : {p q : Passage} → ListingRule prime ahead allowance room p → ListingRule prime ahead allowance room q → p ≡ q
+  rule-only {p} {q} k l =
       let e : p .passed ≡ q .passed = elim (decLe (p .passed) (q .passed)) [
         | yes h ↦ elim (eq-or-lt-of-le h) [ inl s ↦ s | inr s ↦ absurd (no-further k l s) ]
         | no h ↦ absurd (no-further l k (lt-of-not-le h))
@@ -174,6 +174,6 @@ unfolding listingRoom listingFault
 room-off c e =
     decide-refused (listingTests c) (front (recordsOf (listing c .primes)) (c .room)) (λ number. c .room) (firstFault (listingTests c)) (eqb-false (firstFault (listingTests c)) 0 e) refl
 
-pub call-listed : (c : Call) → Listed (primeOf (c .table)) (drop (c .place) (candidates (c .table .variables))) (c .allowance) (length (c .room)) (listing c)
+pub call-rule : (c : Call) → ListingRule (primeOf (c .table)) (drop (c .place) (candidates (c .table .variables))) (c .allowance) (length (c .room)) (listing c)
 unfolding listing
-call-listed c = passage-listed (primeOf (c .table)) (drop (c .place) (candidates (c .table .variables))) (c .allowance) (length (c .room))
+call-rule c = passage-rule (primeOf (c .table)) (drop (c .place) (candidates (c .table .variables))) (c .allowance) (length (c .room))

@@ -13,7 +13,7 @@ use Rattle.cubes.specs.Cubes.{Candidate, pointsOf, Only}
 use Rattle.cubes.specs.Candidates.{Before, candidates, candidateCount}
 use Rattle.cubes.specs.Primes.{Prime}
 use Rattle.cubes.specs.Records.{recordLength, recordOf, recordsOf}
-use Rattle.cubes.specs.Listing.{Table, Call, primeOf, listingTests, listingFault, accepted, Listed, listing, refusing, answer, listingRoom}
+use Rattle.cubes.specs.Listing.{Table, Call, primeOf, listingTests, listingFault, accepted, ListingRule, listing, refusing, answer, listingRoom}
 
 -- ---- one call
 
@@ -25,7 +25,7 @@ handedOver c = take (recordLength * answer c .records) (listingRoom c)
 -- room and the rest of the room as lent.
 pub record Obeyed (c : Call) : Type 0 where
   pub refusal : answer c .refusal ≡ 0
-  pub rule : Listed (primeOf (c .table)) (drop (c .place) (candidates (c .table .variables))) (c .allowance) (length (c .room)) (listing c)
+  pub rule : ListingRule (primeOf (c .table)) (drop (c .place) (candidates (c .table .variables))) (c .allowance) (length (c .room)) (listing c)
   pub passed : answer c .passed ≡ listing c .passed
   pub next : answer c .next ≡ c .place + answer c .passed
   pub records : answer c .records ≡ length (listing c .primes)

@@ -67,8 +67,8 @@ abbrev pub writing : Candidate → Passage → Passage
 writing c p = record { passed = suc (p .passed); primes = c ∷ p .primes }
 
 -- Of the candidates ahead, with an allowance and so many bytes of room: a call passes candidates in order and stops at the end, when the
--- allowance of candidates is spent, or before a prime that no longer fits. That it says what `Listed` does, and only that, is `passage-listed`
--- and `listed-only`.
+-- allowance of candidates is spent, or before a prime that no longer fits. That it says what `ListingRule` does, and only that, is `passage-rule`
+-- and `rule-only`.
 unfoldable pub passage : (Candidate → Bool) → List Candidate → ℕ → ℕ → Passage
 passage prime [] allowance room = nothing
 passage prime (c ∷ cs) zero room = nothing
@@ -87,7 +87,7 @@ pub record Full (prime : Candidate → Bool) (ahead found : List Candidate) (roo
   pub short : room < recordLength * suc (length found)
 
 -- The listing rule, said of the passage p.
-pub record Listed (prime : Candidate → Bool) (ahead : List Candidate) (allowance room : ℕ) (p : Passage) : Type 0 where
+pub record ListingRule (prime : Candidate → Bool) (ahead : List Candidate) (allowance room : ℕ) (p : Passage) : Type 0 where
   -- It passes candidates in order, and the primes among them fit.
   pub along : p .passed ≤ length ahead
   pub paid : p .passed ≤ allowance

@@ -15,7 +15,7 @@ use Rattle.table.proofs.Decide.{Ways, ways}
 use Rattle.form.specs.Form.{Form, formAt, formPoints}
 use Rattle.form.specs.Decoding.{formVariables, decodeForm}
 use Rattle.form.specs.Walk.{walkedForm}
-use Rattle.form.specs.Reading.{IsForm, formFault, pointsOf, acceptedPoints, refusedPoints, pointsAnswer, pointsAfter, rewritten, acceptedRewrite, refusedRewrite, rewriteAnswer, rewriteAfter}
+use Rattle.form.specs.Reading.{IsForm, formFault, pointsRead, acceptedPoints, refusedPoints, pointsAnswer, pointsAfter, rewritten, acceptedRewrite, refusedRewrite, rewriteAnswer, rewriteAfter}
 use Rattle.form.proofs.Laying.{LaidAs, form, form-laid}
 use Rattle.form.proofs.Encodings.{form-valid}
 use Rattle.records.specs.Kinds.{Bytes}
@@ -28,9 +28,9 @@ unfolding holds
 form-numbered bytes = numbered (layoutTests (walkedForm bytes)) refl
 
 -- There is no refusal exactly where the bytes are a form.
-pub no-refusal : (bytes : List ℕ) → formFault bytes ≡ 0 → IsForm bytes
+pub accepted-form : (bytes : List ℕ) → formFault bytes ≡ 0 → IsForm bytes
 unfolding layoutOf
-no-refusal bytes e = no-fault (layoutTests (walkedForm bytes)) (form-numbered bytes) .0 e _ (inl refl)
+accepted-form bytes e = no-fault (layoutTests (walkedForm bytes)) (form-numbered bytes) .0 e _ (inl refl)
 
 -- An accepted form has its first record, which gives an n as in a table.
 pub form-begins : (bytes : List ℕ) → IsForm bytes → (1 < length bytes) × (formVariables bytes ≤ maxVariables)
@@ -43,13 +43,13 @@ form-begins bytes h = (go (form-laid bytes h .1), form-valid bytes h .few)
 
 module _ (bytes : List ℕ) where
   -- The points below 2 ^ n are all of them.
-  pub points-below : {size : ℕ} → size ≡ 2 ^ formVariables bytes → select (formAt (decodeForm bytes)) size ≡ pointsOf bytes
+  pub points-below : {size : ℕ} → size ≡ 2 ^ formVariables bytes → select (formAt (decodeForm bytes)) size ≡ pointsRead bytes
   unfolding formPoints
   points-below e = ap (select (formAt (decodeForm bytes))) e
 
-  pub points-ways : (room : List ℕ) → Ways (formFault bytes) (pointsOf bytes) room (acceptedPoints bytes) refusedPoints (pointsAnswer bytes room) (pointsAfter bytes room)
+  pub points-ways : (room : List ℕ) → Ways (formFault bytes) (pointsRead bytes) room (acceptedPoints bytes) refusedPoints (pointsAnswer bytes room) (pointsAfter bytes room)
   unfolding layoutOf pointsAnswer pointsAfter
-  points-ways room = ways (layoutTests (walkedForm bytes)) (pointsOf bytes) room (acceptedPoints bytes) refusedPoints (form-numbered bytes)
+  points-ways room = ways (layoutTests (walkedForm bytes)) (pointsRead bytes) room (acceptedPoints bytes) refusedPoints (form-numbered bytes)
 
   -- The bytes of a form that was read.
   pub rewrite-ways : (room : List ℕ) → Ways (formFault bytes) (rewritten bytes) room (acceptedRewrite bytes) refusedRewrite (rewriteAnswer bytes room) (rewriteAfter bytes room)

@@ -10,7 +10,7 @@ use Rattle.records.specs.Kinds.{kindOf, wordOf}
 use Rattle.product.specs.Product.{Factor, factor}
 use Rattle.records.specs.declared.Walk.the-variants.{Missing}
 use Rattle.form.specs.Form.{maxProducts}
-use Rattle.form.specs.Walk.{behind, walkFrom, walkedForm}
+use Rattle.form.specs.Walk.{behind, walkFormFrom, walkedForm}
 use Rattle.form.specs.Reading.{IsForm}
 use Rattle.form.proofs.Laying.{Laying, ends, begins, holds, LaidAs, form, form-laid}
 
@@ -30,8 +30,8 @@ place-on : (place k : ℕ) → Missing (place + 1 + k) ≡ Missing (place + suc 
 place-on place k = let e : place + 1 + k ≡ place + suc k = omega arith in ap Missing e
 
 cut-laying : {n : ℕ} {l : List ℕ} {products : ℕ} {earlier : List Factor} {all : ℕ} → Laying n l products earlier all → (place : ℕ) (front : List ℕ) (byte : ℕ) (more : List ℕ)
-    → l ≡ front ++ (byte ∷ more) → walkFrom n 0 (behind products earlier) place front ≡ Missing (place + length front)
-unfolding walkFrom
+    → l ≡ front ++ (byte ∷ more) → walkFormFrom n 0 (behind products earlier) place front ≡ Missing (place + length front)
+unfolding walkFormFrom
 cut-laying (ends q w a) place [] b more e = let z : place ≡ place + 0 = omega arith in ap Missing z
 cut-laying (ends q w a) place (x ∷ []) b more e = rw (ap kindOf (first e) ∙ q) (place-on place 0)
 cut-laying (ends q w a) place (x ∷ y ∷ []) b more e = rw (ap kindOf (first e) ∙ q) (place-on place 1)
@@ -54,7 +54,7 @@ cut-laying {n = n} {products = products} {earlier = earlier} (holds {constant = 
     (cut-laying r (place + 1 + 1 + 1 + 1) front b more rest ∙ ap Missing on)
 
 cut-laid : {l : List ℕ} {all : ℕ} → LaidAs l all → (front : List ℕ) (byte : ℕ) (more : List ℕ) → l ≡ front ++ (byte ∷ more) → walkedForm front ≡ Missing (length front)
-unfolding walkedForm walkFrom
+unfolding walkedForm walkFormFrom
 cut-laid (form q v r) [] b more e = refl
 cut-laid (form q v r) (x ∷ []) b more e = rw (ap kindOf (first e) ∙ q)
 cut-laid (form {n = n} q v r) (x ∷ m ∷ front) b more e =

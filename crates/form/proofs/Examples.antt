@@ -15,8 +15,8 @@ use Rattle.records.specs.declared.Walk.the-variants.{Laid, WrongKind, Missing, 
 use Rattle.form.specs.Form.{formPoints}
 use Rattle.form.specs.Encoding.{encodeFactors, encodeProducts, encodeForm}
 use Rattle.form.specs.Decoding.{partsFrom}
-use Rattle.form.specs.Walk.{walkFrom, walkedForm}
-use Rattle.form.specs.Reading.{pointsOf, rewritten}
+use Rattle.form.specs.Walk.{walkFormFrom, walkedForm}
+use Rattle.form.specs.Reading.{pointsRead, rewritten}
 
 -- The forms of P1, P3 and P5.
 abbrev one : List ℕ
@@ -41,11 +41,11 @@ empties count = 0x4E ∷ 0x01 ∷ (replicate count 0x50 ++ (0x45 ∷ count ∷ 0
 pub record Examples : Type 0 where
   -- Forms, their points, and that they are written as they were read.
   pub p1 : walkedForm one ≡ Laid 0
-  pub p1-points : pointsOf one ≡ []
+  pub p1-points : pointsRead one ≡ []
   pub p3 : walkedForm three ≡ Laid 1
-  pub p3-points : pointsOf three ≡ 0 ∷ 1 ∷ []
+  pub p3-points : pointsRead three ≡ 0 ∷ 1 ∷ []
   pub p5 : walkedForm five ≡ Laid 2
-  pub p5-points : pointsOf five ≡ 4 ∷ 5 ∷ 6 ∷ 7 ∷ 9 ∷ 10 ∷ 12 ∷ 13 ∷ 14 ∷ 15 ∷ []
+  pub p5-points : pointsRead five ≡ 4 ∷ 5 ∷ 6 ∷ 7 ∷ 9 ∷ 10 ∷ 12 ∷ 13 ∷ 14 ∷ 15 ∷ []
   pub p5-again : rewritten five ≡ five
   pub most-products : walkedForm (empties 64) ≡ Laid 64
   pub most-variables : walkedForm (0x4E ∷ 12 ∷ 0x45 ∷ 0x00 ∷ 0x00 ∷ []) ≡ Laid 0
@@ -76,7 +76,7 @@ pub record Examples : Type 0 where
   pub too-many : walkedForm (empties 65) ≡ TooMany 66
 
 pub examples : Examples
-unfolding walkedForm walkFrom kindOf badCount fits agrees apart apartMasks lowest evenHalvings bit partsFrom formPoints select someProductAt productAt factorAt odd oddIn encodeForm encodeProducts encodeFactors
+unfolding walkedForm walkFormFrom kindOf badCount fits agrees apart apartMasks lowest evenHalvings bit partsFrom formPoints select someProductAt productAt factorAt odd oddIn encodeForm encodeProducts encodeFactors
 examples =
     record {
       p1 = refl;

@@ -25,7 +25,7 @@ use Rattle.records.specs.Walks.{bodyStep, afterEnd, endStep, goOn, isFault}
 use Rattle.records.proofs.Whole.{not-whole, body-length, faulty}
 use Rattle.form.specs.Form.{maxProducts}
 use Rattle.form.specs.Decoding.{factorOf}
-use Rattle.form.specs.Walk.{variablesStep, firstStep, productStep, judgeStep, factorStep, behind, recordStep, passed, walkFrom, walkedForm}
+use Rattle.form.specs.Walk.{variablesStep, firstFormStep, productStep, judgeStep, factorStep, behind, formStep, passed, walkFormFrom, walkedForm}
 use Rattle.form.specs.Reading.{IsForm}
 
 -- The bytes, with a number of products behind them and the factors of the last of these, are whole records of products and factors and
@@ -104,29 +104,29 @@ nothing-after products place all (b ∷ rest) e = faulty refl e
 
 -- The records from a place on, by the number of bytes that are left.
 laying-in : (k n : ℕ) (rest : List ℕ) (products : ℕ) (earlier : List Factor) (place all : ℕ) → length rest ≤ k
-    → walkFrom n 0 (behind products earlier) place rest ≡ Laid all → Laying n rest products earlier all
-unfolding walkFrom
+    → walkFormFrom n 0 (behind products earlier) place rest ≡ Laid all → Laying n rest products earlier all
+unfolding walkFormFrom
 laying-in zero n [] products earlier place all h e = faulty refl e
 laying-in zero n (byte ∷ rest) products earlier place all h e = absurd (not-suc-le-zero h)
 laying-in (suc k) n [] products earlier place all h e = faulty refl e
 laying-in (suc k) n (byte ∷ rest) products earlier place all h e = go (kindOf byte) refl rest (le-of-suc-le-suc h) (λ r p f l i d. laying-in k n r p f l all i d) e
   where
     go : (t : Kind) → kindOf byte ≡ t → (rest : List ℕ) → length rest ≤ k
-        → ((rest : List ℕ) (products : ℕ) (earlier : List Factor) (place : ℕ) → length rest ≤ k → walkFrom n 0 (behind products earlier) place rest ≡ Laid all → Laying n rest products earlier all)
-        → goOn (recordStep n (behind products earlier) t place rest) (λ l. walkFrom n l (passed t rest (behind products earlier)) (place + 1) rest) ≡ Laid all → Laying n (byte ∷ rest) products earlier all
+        → ((rest : List ℕ) (products : ℕ) (earlier : List Factor) (place : ℕ) → length rest ≤ k → walkFormFrom n 0 (behind products earlier) place rest ≡ Laid all → Laying n rest products earlier all)
+        → goOn (formStep n (behind products earlier) t place rest) (λ l. walkFormFrom n l (passed t rest (behind products earlier)) (place + 1) rest) ≡ Laid all → Laying n (byte ∷ rest) products earlier all
     go Product q rest h later e =
-        let g = product-goes products place all (λ l. walkFrom n l (behind (products + 1) []) (place + 1) rest) rest e in
+        let g = product-goes products place all (λ l. walkFormFrom n l (behind (products + 1) []) (place + 1) rest) rest e in
         begins q (g .0) (later rest (products + 1) [] (place + 1) h (g .1))
-    go FactorKind q [] h later e = absurd (not-suc-le-zero (factor-goes n products earlier place all [] (λ l. walkFrom n l (behind products (earlier ++ (factorOf [] ∷ []))) (place + 1) []) e .1 .0))
-    go FactorKind q (a ∷ []) h later e = absurd (omega (arith, factor-goes n products earlier place all (a ∷ []) (λ l. walkFrom n l (behind products (earlier ++ (factorOf (a ∷ []) ∷ []))) (place + 1) (a ∷ [])) e .1 .0))
-    go FactorKind q (a ∷ b ∷ []) h later e = absurd (omega (arith, factor-goes n products earlier place all (a ∷ b ∷ []) (λ l. walkFrom n l (behind products (earlier ++ (factorOf (a ∷ b ∷ []) ∷ []))) (place + 1) (a ∷ b ∷ [])) e .1 .0))
+    go FactorKind q [] h later e = absurd (not-suc-le-zero (factor-goes n products earlier place all [] (λ l. walkFormFrom n l (behind products (earlier ++ (factorOf [] ∷ []))) (place + 1) []) e .1 .0))
+    go FactorKind q (a ∷ []) h later e = absurd (omega (arith, factor-goes n products earlier place all (a ∷ []) (λ l. walkFormFrom n l (behind products (earlier ++ (factorOf (a ∷ []) ∷ []))) (place + 1) (a ∷ [])) e .1 .0))
+    go FactorKind q (a ∷ b ∷ []) h later e = absurd (omega (arith, factor-goes n products earlier place all (a ∷ b ∷ []) (λ l. walkFormFrom n l (behind products (earlier ++ (factorOf (a ∷ b ∷ []) ∷ []))) (place + 1) (a ∷ b ∷ [])) e .1 .0))
     go FactorKind q (constant ∷ low ∷ high ∷ rest) h later e =
-        let g = factor-goes n products earlier place all (constant ∷ low ∷ high ∷ rest) (λ l. walkFrom n l (behind products (earlier ++ (factorOf (constant ∷ low ∷ high ∷ rest) ∷ []))) (place + 1) (constant ∷ low ∷ high ∷ rest)) e in
+        let g = factor-goes n products earlier place all (constant ∷ low ∷ high ∷ rest) (λ l. walkFormFrom n l (behind products (earlier ++ (factorOf (constant ∷ low ∷ high ∷ rest) ∷ []))) (place + 1) (constant ∷ low ∷ high ∷ rest)) e in
         holds q (g .0) (g .1 .1) (g .1 .2) (later rest products (earlier ++ (factor constant (wordOf low high) ∷ [])) (place + 1 + 1 + 1 + 1) (omega arith) (g .1 .3))
-    go End q [] h later e = absurd (not-suc-le-zero (end-goes n products earlier place all [] (λ l. walkFrom n l (behind products earlier) (place + 1) []) (bodyStep (bodyOf End) place []) refl e .0))
-    go End q (a ∷ []) h later e = absurd (omega (arith, end-goes n products earlier place all (a ∷ []) (λ l. walkFrom n l (behind products earlier) (place + 1) (a ∷ [])) (bodyStep (bodyOf End) place (a ∷ [])) refl e .0))
+    go End q [] h later e = absurd (not-suc-le-zero (end-goes n products earlier place all [] (λ l. walkFormFrom n l (behind products earlier) (place + 1) []) (bodyStep (bodyOf End) place []) refl e .0))
+    go End q (a ∷ []) h later e = absurd (omega (arith, end-goes n products earlier place all (a ∷ []) (λ l. walkFormFrom n l (behind products earlier) (place + 1) (a ∷ [])) (bodyStep (bodyOf End) place (a ∷ [])) refl e .0))
     go End q (low ∷ high ∷ rest) h later e =
-        let g = end-goes n products earlier place all (low ∷ high ∷ rest) (λ l. walkFrom n l (behind products earlier) (place + 1) (low ∷ high ∷ rest)) (bodyStep (bodyOf End) place (low ∷ high ∷ rest)) refl e in
+        let g = end-goes n products earlier place all (low ∷ high ∷ rest) (λ l. walkFormFrom n l (behind products earlier) (place + 1) (low ∷ high ∷ rest)) (bodyStep (bodyOf End) place (low ∷ high ∷ rest)) refl e in
         let r = nothing-after products (place + 1 + 2) all rest (g .2) in
         subst (λ (l : List ℕ). Laying n (byte ∷ low ∷ high ∷ l) products earlier all) (sym (r .0)) (ends q (g .1) (r .1))
     go Variables q rest h later e = faulty refl e
@@ -136,7 +136,7 @@ laying-in (suc k) n (byte ∷ rest) products earlier place all h e = go (kindOf 
 
 -- The first record, then the others.
 pub laid : (bytes : List ℕ) (all : ℕ) → walkedForm bytes ≡ Laid all → LaidAs bytes all
-unfolding walkedForm walkFrom
+unfolding walkedForm walkFormFrom
 laid [] all e = faulty refl e
 laid (byte ∷ rest) all e = go (kindOf byte) refl rest e
   where
@@ -147,10 +147,10 @@ laid (byte ∷ rest) all e = go (kindOf byte) refl rest e
         let h = left (Whole m) (WrongVariables 1) refl next (badCount (getD rest 0 0)) e in
         (b .1, h .0, sym (ap next (b .0)) ∙ h .1)
 
-    go : (k : Kind) → kindOf byte ≡ k → (rest : List ℕ) → goOn (firstStep k rest) (λ l. walkFrom (getD rest 0 0) l (behind 0 []) 1 rest) ≡ Laid all → LaidAs (byte ∷ rest) all
-    go Variables q [] e = absurd (not-suc-le-zero (first [] (λ l. walkFrom 0 l (behind 0 []) 1 []) (bodyStep (Length 1) 0 []) refl e .0))
+    go : (k : Kind) → kindOf byte ≡ k → (rest : List ℕ) → goOn (firstFormStep k rest) (λ l. walkFormFrom (getD rest 0 0) l (behind 0 []) 1 rest) ≡ Laid all → LaidAs (byte ∷ rest) all
+    go Variables q [] e = absurd (not-suc-le-zero (first [] (λ l. walkFormFrom 0 l (behind 0 []) 1 []) (bodyStep (Length 1) 0 []) refl e .0))
     go Variables q (n ∷ rest) e =
-        let f = first (n ∷ rest) (λ l. walkFrom n l (behind 0 []) 1 (n ∷ rest)) (bodyStep (Length 1) 0 (n ∷ rest)) refl e in
+        let f = first (n ∷ rest) (λ l. walkFormFrom n l (behind 0 []) 1 (n ∷ rest)) (bodyStep (Length 1) 0 (n ∷ rest)) refl e in
         form q (f .1) (laying-in (length rest) n rest 0 [] 2 all (le-refl (length rest)) (f .2))
     go Product q rest e = faulty refl e
     go FactorKind q rest e = faulty refl e
@@ -163,8 +163,8 @@ laid (byte ∷ rest) all e = go (kindOf byte) refl rest e
 
 -- The walk over the records and any bytes after them.
 pub walk-laying : {n : ℕ} {rest : List ℕ} {products : ℕ} {earlier : List Factor} {all : ℕ} → Laying n rest products earlier all → (place : ℕ) (more : List ℕ)
-    → walkFrom n 0 (behind products earlier) place (rest ++ more) ≡ afterEnd all (place + length rest) more
-unfolding walkFrom
+    → walkFormFrom n 0 (behind products earlier) place (rest ++ more) ≡ afterEnd all (place + length rest) more
+unfolding walkFormFrom
 walk-laying {products = products} (ends {low = low} {high = high} q w a) place more =
     let e : place + 1 + 2 ≡ place + 3 = omega arith in
     rw (q, le-leb 2 (length (low ∷ high ∷ more)) (omega arith), eq-eqb _ products w) (ap (λ (p : ℕ). afterEnd products p more) e ∙ ap (λ (p : ℕ). afterEnd p (place + 3) more) a)
@@ -176,7 +176,7 @@ walk-laying {products = products} {all = all} (holds {constant = constant} {low 
     rw (q, ne-eqb products 0 nz, le-leb 3 (length (constant ∷ low ∷ high ∷ (rest ++ more))) (omega arith), f, a) (walk-laying r (place + 1 + 1 + 1 + 1) more ∙ ap (λ (p : ℕ). afterEnd all p more) e)
 
 pub walk-longer : {bytes : List ℕ} {all : ℕ} → LaidAs bytes all → (more : List ℕ) → walkedForm (bytes ++ more) ≡ afterEnd all (length bytes) more
-unfolding walkedForm walkFrom
+unfolding walkedForm walkFormFrom
 walk-longer {all = all} (form {n = n} {rest = rest} q b r) more =
     let e : 2 + length rest ≡ suc (suc (length rest)) = omega arith in
     rw (q, le-leb 1 (length (n ∷ (rest ++ more))) (omega arith), b) (walk-laying r 2 more ∙ ap (λ (p : ℕ). afterEnd all p more) e)

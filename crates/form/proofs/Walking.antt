@@ -29,11 +29,11 @@ use Rattle.records.proofs.Whole.{body-length, failed-test, not-whole, passed-te
 use Rattle.form.specs.declared.Counts.{Counts}
 use Rattle.form.specs.Form.{maxProducts}
 use Rattle.form.specs.Decoding.{factorOf}
-use Rattle.form.specs.Walk.{variablesStep, firstStep, productStep, judgeStep, factorStep, Behind, behind, recordStep, passed, walkFrom, walkedForm}
+use Rattle.form.specs.Walk.{variablesStep, firstFormStep, productStep, judgeStep, factorStep, Behind, behind, formStep, passed, walkFormFrom, walkedForm}
 use Rattle.form.specs.Counting.{factorLength, factorsBefore, behindBy, countsAfter, Counted}
 
 -- The first: its body is one byte, and n is that of a table.
-pub first-whole : (k : Kind) (rest : List ℕ) (l : ℕ) → firstStep k rest ≡ Whole l → (l ≡ 1) × (1 ≤ length rest) × (badCount (getD rest 0 0) ≡ false) × (k ≡ Variables)
+pub first-whole : (k : Kind) (rest : List ℕ) (l : ℕ) → firstFormStep k rest ≡ Whole l → (l ≡ 1) × (1 ≤ length rest) × (badCount (getD rest 0 0) ≡ false) × (k ≡ Variables)
 first-whole Variables rest l e = go (bodyStep (bodyOf Variables) 0 rest) refl e
   where
     go : (s : Step) → bodyStep (bodyOf Variables) 0 rest ≡ s → variablesStep s rest ≡ Whole l
@@ -85,7 +85,7 @@ end-whole (Stop fault) products place rest l e = not-whole e
 end-whole (Whole m) products place rest l e = not-whole e
 
 -- Any record that is passed leaves its body behind.
-pub record-whole : (n : ℕ) (b : Behind) (k : Kind) (place : ℕ) (rest : List ℕ) (l : ℕ) → recordStep n b k place rest ≡ Whole l → l ≤ length rest
+pub record-whole : (n : ℕ) (b : Behind) (k : Kind) (place : ℕ) (rest : List ℕ) (l : ℕ) → formStep n b k place rest ≡ Whole l → l ≤ length rest
 record-whole n b Product place rest l e = let h = product-whole (b .products) place rest l e in omega (arith, h .0)
 record-whole n b FactorKind place rest l e = let h = factor-whole n (b .products) (b .factors) place rest l e in omega (arith, h .long, h .there)
 record-whole n b End place rest l e = end-whole (bodyStep (bodyOf End) place rest) (b .products) place rest l e
@@ -103,30 +103,30 @@ factor-read bytes place =
 -- ---- the walk, a record more
 
 -- A body that is there is passed.
-pub pass : (n skip : ℕ) (b : Behind) (place : ℕ) (rest : List ℕ) → skip ≤ length rest → walkFrom n skip b place rest ≡ walkFrom n 0 b (place + skip) (drop skip rest)
-unfolding walkFrom
-pass n zero b place rest h = let e : place ≡ place + 0 = omega arith in ap (λ (p : ℕ). walkFrom n 0 b p rest) e
+pub pass : (n skip : ℕ) (b : Behind) (place : ℕ) (rest : List ℕ) → skip ≤ length rest → walkFormFrom n skip b place rest ≡ walkFormFrom n 0 b (place + skip) (drop skip rest)
+unfolding walkFormFrom
+pass n zero b place rest h = let e : place ≡ place + 0 = omega arith in ap (λ (p : ℕ). walkFormFrom n 0 b p rest) e
 pass n (suc k) b place [] h = absurd (not-suc-le-zero h)
 pass n (suc k) b place (c ∷ rest) h =
     let e : place + 1 + k ≡ place + suc k = omega arith in
-    pass n k b (place + 1) rest (le-of-suc-le-suc h) ∙ ap (λ (p : ℕ). walkFrom n 0 b p (drop k rest)) e
+    pass n k b (place + 1) rest (le-of-suc-le-suc h) ∙ ap (λ (p : ℕ). walkFormFrom n 0 b p (drop k rest)) e
 
 -- The walk at a place of the bytes where a record begins: it ends there, or goes on after the record.
 module _ (n : ℕ) (s : List ℕ) (b : Behind) (place : ℕ) (h : place < length s) where
   opened : drop place s ≡ getD s place 0 ∷ drop (place + 1) s
   opened = rw (add-one, drop-cons s place 0)
 
-  pub walk-ends : (w : Walk) → recordStep n b (kindOf (getD s place 0)) place (drop (place + 1) s) ≡ Stop w → walkFrom n 0 b place (drop place s) ≡ w
-  unfolding walkFrom
+  pub walk-ends : (w : Walk) → formStep n b (kindOf (getD s place 0)) place (drop (place + 1) s) ≡ Stop w → walkFormFrom n 0 b place (drop place s) ≡ w
+  unfolding walkFormFrom
   walk-ends w e = rw (opened, e)
 
-  pub walk-goes : (l : ℕ) → recordStep n b (kindOf (getD s place 0)) place (drop (place + 1) s) ≡ Whole l
-      → walkFrom n 0 b place (drop place s) ≡ walkFrom n 0 (passed (kindOf (getD s place 0)) (drop (place + 1) s) b) (place + 1 + l) (drop (place + 1 + l) s)
-  unfolding walkFrom
+  pub walk-goes : (l : ℕ) → formStep n b (kindOf (getD s place 0)) place (drop (place + 1) s) ≡ Whole l
+      → walkFormFrom n 0 b place (drop place s) ≡ walkFormFrom n 0 (passed (kindOf (getD s place 0)) (drop (place + 1) s) b) (place + 1 + l) (drop (place + 1 + l) s)
+  unfolding walkFormFrom
   walk-goes l e =
       let after = passed (kindOf (getD s place 0)) (drop (place + 1) s) b in
       let there = record-whole n b (kindOf (getD s place 0)) place (drop (place + 1) s) l e in
-      let on = pass n l after (place + 1) (drop (place + 1) s) there ∙ ap (walkFrom n 0 after (place + 1 + l)) (drop-drop l (place + 1) s) in
+      let on = pass n l after (place + 1) (drop (place + 1) s) there ∙ ap (walkFormFrom n 0 after (place + 1 + l)) (drop-drop l (place + 1) s) in
       rw (opened, e) on
 
 -- The walk over a whole input: it ends at the first record, or goes on after it.
@@ -135,19 +135,19 @@ unfolding walkedForm
 walk-none [] h = refl
 walk-none (c ∷ rest) h = absurd (omega arith)
 
-pub first-ends : (s : List ℕ) (w : Walk) → 0 < length s → firstStep (kindOf (getD s 0 0)) (drop 1 s) ≡ Stop w → walkedForm s ≡ w
+pub first-ends : (s : List ℕ) (w : Walk) → 0 < length s → firstFormStep (kindOf (getD s 0 0)) (drop 1 s) ≡ Stop w → walkedForm s ≡ w
 unfolding walkedForm
 first-ends [] w h e = absurd (not-suc-le-zero h)
 first-ends (c ∷ rest) w h e = rw e
 
-pub first-goes : (s : List ℕ) (l : ℕ) → 0 < length s → firstStep (kindOf (getD s 0 0)) (drop 1 s) ≡ Whole l
-    → walkedForm s ≡ walkFrom (getD s 1 0) 0 (behind 0 []) (1 + l) (drop (1 + l) s)
+pub first-goes : (s : List ℕ) (l : ℕ) → 0 < length s → firstFormStep (kindOf (getD s 0 0)) (drop 1 s) ≡ Whole l
+    → walkedForm s ≡ walkFormFrom (getD s 1 0) 0 (behind 0 []) (1 + l) (drop (1 + l) s)
 unfolding walkedForm
 first-goes [] l h e = absurd (not-suc-le-zero h)
 first-goes (c ∷ rest) l h e =
     let w = first-whole (kindOf c) rest l e in
     let there : l ≤ length rest = omega (arith, w .0, w .1) in
-    rw e (pass (getD rest 0 0) l (behind 0 []) 1 rest there ∙ ap (walkFrom (getD rest 0 0) 0 (behind 0 []) (1 + l)) (drop-drop l 1 (c ∷ rest)))
+    rw e (pass (getD rest 0 0) l (behind 0 []) 1 rest there ∙ ap (walkFormFrom (getD rest 0 0) 0 (behind 0 []) (1 + l)) (drop-drop l 1 (c ∷ rest)))
 
 -- ---- the counts, a record more
 
@@ -172,7 +172,7 @@ unfolding factorsBefore
 no-factors bytes place = refl
 
 module _ (n : ℕ) (bytes : List ℕ) (counts : Counts) (place : ℕ) (c : Counted n bytes counts place) (h : place < length bytes) where
-  pub carried : (k : Kind) (l : ℕ) → recordStep n (behindBy bytes counts place) k place (drop (place + 1) bytes) ≡ Whole l → Carried n bytes k counts place l
+  pub carried : (k : Kind) (l : ℕ) → formStep n (behindBy bytes counts place) k place (drop (place + 1) bytes) ≡ Whole l → Carried n bytes k counts place l
   carried Product l e =
       let w = product-whole (counts .products) place (drop (place + 1) bytes) l e in
       record {

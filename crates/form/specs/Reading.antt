@@ -24,16 +24,16 @@ abbrev pub formFault : List ℕ → ℕ
 formFault bytes = layoutOf (walkedForm bytes)
 
 -- The points of the form that the bytes stand for, rising.
-abbrev pub pointsOf : List ℕ → List ℕ
-pointsOf bytes = formPoints (decodeForm bytes)
+abbrev pub pointsRead : List ℕ → List ℕ
+pointsRead bytes = formPoints (decodeForm bytes)
 
 -- The tests of reading the points into a lent room: those of the form's bytes, then that the points are more than the room has places.
 abbrev pub pointsTests : List ℕ → List ℕ → List Test
-pointsTests bytes room = layoutTests (walkedForm bytes) ++ roomTest (pointsOf bytes) room
+pointsTests bytes room = layoutTests (walkedForm bytes) ++ roomTest (pointsRead bytes) room
 
 -- The numbers returned with the points: n, and how many points there are.
 abbrev pub acceptedPoints : List ℕ → FormPoints
-acceptedPoints bytes = record { refusal = 0; variables = formVariables bytes; count = length (pointsOf bytes) }
+acceptedPoints bytes = record { refusal = 0; variables = formVariables bytes; count = length (pointsRead bytes) }
 
 -- A refusal returns its number with all other numbers 0 (document 01, "Refusal numbers").
 abbrev pub refusedPoints : ℕ → FormPoints
@@ -45,7 +45,7 @@ pointsAnswer bytes room = decide (pointsTests bytes room) (acceptedPoints bytes)
 
 -- The room after the call: the points at its front and the rest as lent, or all as lent.
 unfoldable pub pointsAfter : List ℕ → List ℕ → List ℕ
-pointsAfter bytes room = roomAfter (pointsTests bytes room) (pointsOf bytes) room
+pointsAfter bytes room = roomAfter (pointsTests bytes room) (pointsRead bytes) room
 
 -- What was read, written: that it is the bytes that were read is `rewritten-same`.
 abbrev pub rewritten : List ℕ → List ℕ

@@ -24,14 +24,14 @@ variablesStep (Stop fault) rest = Stop fault
 variablesStep (Whole l) rest = cond (badCount (getD rest 0 0)) (Stop (WrongVariables 1)) (Whole l)
 
 -- The first record gives n; any other kind stands wrong there.
-abbrev pub firstStep : Kind → List ℕ → Step
-firstStep Variables rest = variablesStep (bodyStep (bodyOf Variables) 0 rest) rest
-firstStep Product rest = Stop (WrongKind 0)
-firstStep FactorKind rest = Stop (WrongKind 0)
-firstStep End rest = Stop (WrongKind 0)
-firstStep On rest = Stop (WrongKind 0)
-firstStep Free rest = Stop (WrongKind 0)
-firstStep Unknown rest = Stop (WrongKind 0)
+abbrev pub firstFormStep : Kind → List ℕ → Step
+firstFormStep Variables rest = variablesStep (bodyStep (bodyOf Variables) 0 rest) rest
+firstFormStep Product rest = Stop (WrongKind 0)
+firstFormStep FactorKind rest = Stop (WrongKind 0)
+firstFormStep End rest = Stop (WrongKind 0)
+firstFormStep On rest = Stop (WrongKind 0)
+firstFormStep Free rest = Stop (WrongKind 0)
+firstFormStep Unknown rest = Stop (WrongKind 0)
 
 -- A product begins, after a number of others; one too many is a fault at its kind.
 abbrev pub productStep : ℕ → ℕ → List ℕ → Step
@@ -58,14 +58,14 @@ abbrev pub behind : ℕ → List Factor → Behind
 behind products factors = record { products = products; factors = factors }
 
 -- A record after the first is a product, a factor or the end; any other kind stands wrong.
-abbrev pub recordStep : ℕ → Behind → Kind → ℕ → List ℕ → Step
-recordStep n b Product place rest = productStep (b .products) place rest
-recordStep n b FactorKind place rest = factorStep n (b .products) (b .factors) place rest
-recordStep n b End place rest = endStep (bodyStep (bodyOf End) place rest) (b .products) place rest
-recordStep n b Variables place rest = Stop (WrongKind place)
-recordStep n b On place rest = Stop (WrongKind place)
-recordStep n b Free place rest = Stop (WrongKind place)
-recordStep n b Unknown place rest = Stop (WrongKind place)
+abbrev pub formStep : ℕ → Behind → Kind → ℕ → List ℕ → Step
+formStep n b Product place rest = productStep (b .products) place rest
+formStep n b FactorKind place rest = factorStep n (b .products) (b .factors) place rest
+formStep n b End place rest = endStep (bodyStep (bodyOf End) place rest) (b .products) place rest
+formStep n b Variables place rest = Stop (WrongKind place)
+formStep n b On place rest = Stop (WrongKind place)
+formStep n b Free place rest = Stop (WrongKind place)
+formStep n b Unknown place rest = Stop (WrongKind place)
 
 -- What lies behind once a record is passed too: a product begins without factors, a factor is the last of its product.
 abbrev pub passed : Kind → List ℕ → Behind → Behind
@@ -78,13 +78,13 @@ passed Free rest b = b
 passed Unknown rest b = b
 
 -- The walk over the bytes from a place on, for n variables, once the given number of bytes of a body is passed.
-unfoldable pub walkFrom : ℕ → ℕ → Behind → ℕ → List ℕ → Walk
-walkFrom n skip b place [] = Missing place
-walkFrom n zero b place (byte ∷ rest) =
-    goOn (recordStep n b (kindOf byte) place rest) (λ l. walkFrom n l (passed (kindOf byte) rest b) (place + 1) rest)
-walkFrom n (suc skip) b place (byte ∷ rest) = walkFrom n skip b (place + 1) rest
+unfoldable pub walkFormFrom : ℕ → ℕ → Behind → ℕ → List ℕ → Walk
+walkFormFrom n skip b place [] = Missing place
+walkFormFrom n zero b place (byte ∷ rest) =
+    goOn (formStep n b (kindOf byte) place rest) (λ l. walkFormFrom n l (passed (kindOf byte) rest b) (place + 1) rest)
+walkFormFrom n (suc skip) b place (byte ∷ rest) = walkFormFrom n skip b (place + 1) rest
 
 -- The walk over a whole input: the first record, products with their factors, the end.
 unfoldable pub walkedForm : List ℕ → Walk
 walkedForm [] = Missing 0
-walkedForm (byte ∷ rest) = goOn (firstStep (kindOf byte) rest) (λ l. walkFrom (getD rest 0 0) l (behind 0 []) 1 rest)
+walkedForm (byte ∷ rest) = goOn (firstFormStep (kindOf byte) rest) (λ l. walkFormFrom (getD rest 0 0) l (behind 0 []) 1 rest)

@@ -13,7 +13,7 @@ ghost use Rattle.product.specs.Product.{agrees, factor, factorAt, fits};
 ghost use Rattle.form.specs.Form.{formAt};
 ghost use Rattle.form.specs.Decoding.{decodeForm, factorOf};
 ghost use Rattle.form.specs.Reading.{IsForm, formFault, pointsAfter, pointsAnswer, rewriteAfter, rewriteAnswer};
-ghost use Rattle.form.specs.Walk.{behind, factorStep, firstStep, productStep, recordStep, walkFrom, walkedForm};
+ghost use Rattle.form.specs.Walk.{behind, factorStep, firstFormStep, productStep, formStep, walkFormFrom, walkedForm};
 ghost use Rattle.form.specs.Counting.{Counted, behindBy, countsAfter, factorLength, factorsBefore};
 use records::Kind;
 use records::Step;
@@ -53,7 +53,7 @@ pub struct FormRewrite {
 // The first record of a form, which gives n.
 fn first_step(bytes: &[u8]) -> Step
     requires { ⌜ 0 < length (now bytes) ⌝ }
-    ensures { λ r. ⌜ r ≡ firstStep (kindOf (getD (now (bytes .entry)) 0 0)) (drop 1 (now (bytes .entry))) ⌝ }
+    ensures { λ r. ⌜ r ≡ firstFormStep (kindOf (getD (now (bytes .entry)) 0 0)) (drop 1 (now (bytes .entry))) ⌝ }
 {
     let kind = records::kind_of(bytes[0]);
     let Kind::Variables = kind else {
@@ -160,7 +160,7 @@ fn record_step(bytes: &[u8], n: usize, counts: Counts, place: usize) -> Step
     ensures { λ r.
         ⌜
         r
-        ≡ recordStep
+        ≡ formStep
         n
         (behindBy (now (bytes .entry)) counts place)
         (kindOf (getD (now (bytes .entry)) place 0))
@@ -198,7 +198,7 @@ fn counts_after(bytes: &[u8], n: usize, counts: Counts, place: usize) -> Counts
 // The walk over the records after the first, from the place on.
 fn walk_records(bytes: &[u8], n: usize, start: usize) -> Walk
     requires { ⌜ (n ≤ maxVariables) × (start ≤ length (now bytes)) ⌝ }
-    ensures { λ r. ⌜ r ≡ walkFrom n 0 (behind 0 []) start (drop start (now (bytes .entry))) ⌝ }
+    ensures { λ r. ⌜ r ≡ walkFormFrom n 0 (behind 0 []) start (drop start (now (bytes .entry))) ⌝ }
 {
     let mut counts = Counts {
         products: 0,

@@ -15,7 +15,7 @@ use borrow.Author.Tests.{ltb-true, ltb-false, eqb-true, eqb-false, lt-ltb, eq-eq
 use Rattle.gf2.specs.Bits.{_⊕_, lead, hasLead}
 use Rattle.gf2.specs.Finite.{Mem, select}
 use Rattle.gf2.specs.Span.{Span, Space}
-use Rattle.gf2.specs.Basis.{Apart, Reduced, clear, reduce, place, join, insert, inserts}
+use Rattle.gf2.specs.Basis.{LeadsApart, Reduced, clear, reduce, place, join, insert, inserts}
 use Rattle.gf2.proofs.Logic.{cond-cases}
 use Rattle.gf2.proofs.Finite.{cons-all, map-mem, mem-map, select-on, select-off}
 use Rattle.gf2.proofs.Xor.{xor-cancel}
@@ -86,7 +86,7 @@ clear-lead r c p q e = elim (clear-cases r c) [
 ]
 
 -- So two vectors stay apart.
-clear-apart : (r b c : ℕ) → 0 < r → 0 < b → hasLead b r ≡ false → hasLead c r ≡ false → Apart b c → Apart (clear r b) (clear r c)
+clear-apart : (r b c : ℕ) → 0 < r → 0 < b → hasLead b r ≡ false → hasLead c r ≡ false → LeadsApart b c → LeadsApart (clear r b) (clear r c)
 clear-apart r b c p q e f h =
     let pc : 0 < c = omega (arith, h .rises) in
     let lb = clear-lead r b p q e in
@@ -113,11 +113,11 @@ place-reduced r p [] h s = (p, λ c m. absurd m, tt)
 place-reduced r p (c ∷ cs) h s = place-cases Reduced r c cs
     (λ l. (p, before l, s)) (λ l. (s .0, λ d m. after l d (place-mem r cs d m), place-reduced r p cs (λ d m. h d (inr m)) (s .2)))
   where
-    before : r < c → (d : ℕ) → Mem d (c ∷ cs) → Apart r d
+    before : r < c → (d : ℕ) → Mem d (c ∷ cs) → LeadsApart r d
     before l d (inl e) = rw e (apart r c p l (h c (inl refl) .1))
     before l d (inr m) = apart r d p (omega (arith, s .1 d m .rises)) (h d (inr m) .1)
 
-    after : c ≤ r → (d : ℕ) → (d ≡ r) ⊎ Mem d cs → Apart c d
+    after : c ≤ r → (d : ℕ) → (d ≡ r) ⊎ Mem d cs → LeadsApart c d
     after l d (inl e) = rw e (apart c r (s .0) (lt-of-le-ne l (hasLead-ne c r (s .0) (h c (inl refl) .0))) (h c (inl refl) .0))
     after l d (inr m) = s .1 d m
 

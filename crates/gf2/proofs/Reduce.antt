@@ -14,7 +14,7 @@ use borrow.Author.Tests.{lt-ltb, le-ltb}
 use Rattle.gf2.specs.Bits.{_⊕_, _⊻_, bit, lead, hasLead}
 use Rattle.gf2.specs.Finite.{Mem}
 use Rattle.gf2.specs.Span.{Span, Coset, Least}
-use Rattle.gf2.specs.Basis.{Apart, Reduced, clear, reduce}
+use Rattle.gf2.specs.Basis.{LeadsApart, Reduced, clear, reduce}
 use Rattle.gf2.proofs.Xor.{bit-xor, bit-big, xor-assoc, xor-eq, xors}
 use Rattle.gf2.proofs.Logic.{⊻-false}
 use Rattle.gf2.proofs.Leads.{hasLead-xor, hasLead-self, hasLead-lt, falls-lead, lead-is, lead-high, lead-rise, lead-fits}
@@ -77,7 +77,7 @@ hasLead-flip b x p e = go (hasLead b x) (rw (hasLead-xor b x b, hasLead-self b p
 -- ---- reduced bases
 
 -- Of the three demands on two vectors, one follows from the others.
-pub apart : (b c : ℕ) → 0 < b → b < c → hasLead b c ≡ false → Apart b c
+pub apart : (b c : ℕ) → 0 < b → b < c → hasLead b c ≡ false → LeadsApart b c
 apart b c p h e = record {
   rises = h;
   lower = e;

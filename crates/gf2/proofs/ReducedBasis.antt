@@ -16,7 +16,7 @@ use borrow.Author.Tests.{ltb-true, lt-ltb, not-true, not-false}
 use Rattle.gf2.specs.Bits.{_⊕_, lead, hasLead}
 use Rattle.gf2.specs.Finite.{Mem, all, select, In}
 use Rattle.gf2.specs.Span.{Span, Space}
-use Rattle.gf2.specs.Basis.{Apart, Reduced, inserts, units, reduces, irreducible, reducedBasis}
+use Rattle.gf2.specs.Basis.{LeadsApart, Reduced, inserts, units, reduces, irreducible, reducedBasis}
 use Rattle.gf2.proofs.Logic.{and-l, and-r, cond-cases}
 use Rattle.gf2.proofs.Finite.{all-at, all-not, below-ind, mem-snoc, snoc-mem, select-mem, mem-select, all-ext, select-ext}
 use Rattle.gf2.proofs.Xor.{xor-cancel, bit-pow-other}
@@ -31,7 +31,7 @@ pub snoc-reduced : (bs : List ℕ) (v : ℕ) → 0 < v → ((b : ℕ) → Mem b 
 snoc-reduced [] v p h r = (p, λ c m. absurd m, tt)
 snoc-reduced (b ∷ bs) v p h r = (r .0, λ c m. go c (mem-snoc c bs v m), snoc-reduced bs v p (λ d m. h d (inr m)) (r .2))
   where
-    go : (c : ℕ) → Mem c bs ⊎ (c ≡ v) → Apart b c
+    go : (c : ℕ) → Mem c bs ⊎ (c ≡ v) → LeadsApart b c
     go c (inl m) = r .1 c m
     go c (inr e) = let k = h b (inl refl) in rw e (apart b v (r .0) (k .0) (k .1))
 

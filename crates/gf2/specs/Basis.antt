@@ -9,7 +9,7 @@ use Rattle.gf2.specs.Bits.{_⊕_, lead, hasLead, indexOf}
 use Rattle.gf2.specs.Finite.{Mem, all, select}
 
 -- Two vectors of a reduced basis, b before c: they rise, and neither has the other's lead bit.
-pub record Apart (b c : ℕ) : Type 0 where
+pub record LeadsApart (b c : ℕ) : Type 0 where
   pub rises : b < c
   pub lower : hasLead b c ≡ false
   pub upper : hasLead c b ≡ false
@@ -17,7 +17,7 @@ pub record Apart (b c : ℕ) : Type 0 where
 -- A reduced basis: no vector is 0, so that each has a lead; the vectors rise; no lead bit is set in another vector.
 abbrev pub Reduced : List ℕ → Type 0
 Reduced [] = Unit {0}
-Reduced (b ∷ bs) = (0 < b) × ((c : ℕ) → Mem c bs → Apart b c) × Reduced bs
+Reduced (b ∷ bs) = (0 < b) × ((c : ℕ) → Mem c bs → LeadsApart b c) × Reduced bs
 
 -- x with the lead bit of b cleared, by XOR with b where the bit is set.
 unfoldable pub clear : ℕ → ℕ → ℕ

@@ -22,7 +22,7 @@ use Rattle.projection.specs.Masks.{projected as byMask}
 use Rattle.projection.proofs.Masks.{projected-projection}
 use Rattle.projection.proofs.Steps.{least-reduced}
 use Rattle.glospruma.specs.declared.Affine.{Affine}
-use Rattle.glospruma.specs.Affine.{projected, onTests, affineAccepted, affineRefused, affineAnswer, affineRoom}
+use Rattle.glospruma.specs.Affine.{affineProjection, onTests, affineAccepted, affineRefused, affineAnswer, affineRoom}
 
 -- ---- refusals before the room's
 
@@ -40,7 +40,7 @@ module _ (n : ℕ) (on : List ℕ) where
   on-passed e z = then-none (tableTests n on []) (table-numbered n on []) e affineFault (eqb (length on) 0) (ne-eqb (length on) 0 z)
 
   -- Every point is projected.
-  pub projected-all : length (projected n on) ≡ length on
+  pub projected-all : length (affineProjection n on) ≡ length on
   unfolding projection
   projected-all = length-map on (project (canonicalPlaces n (directions on)))
 
@@ -58,12 +58,12 @@ module _ (n : ℕ) (on : List ℕ) (b : Basis) (value : b ≡ basisOf (direction
       ∙ ap₂ (λ (x y : ℕ). record { refusal = 0; least = x; dimension = length (directions on); basis = basisOf (directions on); count = y })
       (e ∙ least-reduced on b some value) (sym (projected-all n on))
 
-  pub affine-projected : Reduced (vectorsOf b) → (m : ℕ) → m ≡ leadMask (vectorsOf b) → byMask n m on ≡ projected n on
+  pub affine-projected : Reduced (vectorsOf b) → (m : ℕ) → m ≡ leadMask (vectorsOf b) → byMask n m on ≡ affineProjection n on
   affine-projected r m e =
       ap (λ (x : ℕ). byMask n x on) e ∙ projected-projection n (vectorsOf b) r on
       ∙ ap (λ bs. projection n bs on) (ap vectorsOf value ∙ vectors-back (directions on))
 
 -- ---- the three ways out of a call
 
-pub affine-ways : (n : ℕ) (on room : List ℕ) → Ways (firstFault (onTests n on)) (projected n on) room (affineAccepted n on) affineRefused (affineAnswer n on room) (affineRoom n on room)
-affine-ways n on room = ways (onTests n on) (projected n on) room (affineAccepted n on) affineRefused (on-numbered n on)
+pub affine-ways : (n : ℕ) (on room : List ℕ) → Ways (firstFault (onTests n on)) (affineProjection n on) room (affineAccepted n on) affineRefused (affineAnswer n on room) (affineRoom n on room)
+affine-ways n on room = ways (onTests n on) (affineProjection n on) room (affineAccepted n on) affineRefused (on-numbered n on)

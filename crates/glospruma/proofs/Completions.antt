@@ -35,10 +35,10 @@ module _ (n : ℕ) (on free : List ℕ) (r : Completed) (k : IsCompleted n on fr
   space-len = completed-len k
 
   pub complete-numbers : (count : ℕ) → count ≡ length (kept n 0 (flagged (r .flags)))
-      → _≡_ {A = Completion} (record { refusal = 0; count = count; degree = r .basis .len; low = r .low; high = r .high }) (completeAccepted n on free)
+      → _≡_ {A = Completion} (record { refusal = 0; count = count; degree = r .basis .len; k0 = r .k0; k1 = r .k1 }) (completeAccepted n on free)
   complete-numbers count e =
       let c : count ≡ length (completedPoints n on free) = e ∙ ap length all-kept in
-      rw (c, space-len, k .low, k .high)
+      rw (c, space-len, k .k0, k .k1)
 
   pub analyse-numbers : (count m : ℕ) (canonical equations′ : ShortList) → m ≡ leadMask (vectorsOf (r .basis)) → count ≡ length (kept n m (flagged (r .flags)))
       → canonical ≡ short (variablesAt n (canonicalPlaces n (vectorsOf (r .basis)))) → equations′ ≡ short (equations n (vectorsOf (r .basis)))

@@ -12,15 +12,15 @@ use Rattle.glospruma.specs.declared.Affine.{Affine}
 use Rattle.table.specs.Decision.{decide, roomAfter, roomTest}
 
 -- The projection of the on points.
-abbrev pub projected : ℕ → List ℕ → List ℕ
-projected n on = projection n (directions on) on
+abbrev pub affineProjection : ℕ → List ℕ → List ℕ
+affineProjection n on = projection n (directions on) on
 
 -- Refusals 1, 2, 3, then 6, an empty on set, then 7.
 abbrev pub onTests : ℕ → List ℕ → List Test
 onTests n on = tableTests n on [] ++ (test affineFault (eqb (length on) 0) ∷ [])
 
 abbrev pub affineTests : ℕ → List ℕ → List ℕ → List Test
-affineTests n on room = onTests n on ++ roomTest (projected n on) room
+affineTests n on room = onTests n on ++ roomTest (affineProjection n on) room
 
 abbrev pub affineAccepted : ℕ → List ℕ → Affine
 affineAccepted n on = record {
@@ -28,7 +28,7 @@ affineAccepted n on = record {
   least = leastPoint on;
   dimension = length (directions on);
   basis = basisOf (directions on);
-  count = length (projected n on);
+  count = length (affineProjection n on);
 }
 
 abbrev pub affineRefused : ℕ → Affine
@@ -38,4 +38,4 @@ abbrev pub affineAnswer : ℕ → List ℕ → List ℕ → Affine
 affineAnswer n on room = decide (affineTests n on room) (affineAccepted n on) affineRefused
 
 abbrev pub affineRoom : ℕ → List ℕ → List ℕ → List ℕ
-affineRoom n on room = roomAfter (affineTests n on room) (projected n on) room
+affineRoom n on room = roomAfter (affineTests n on room) (affineProjection n on) room

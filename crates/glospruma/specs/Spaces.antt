@@ -9,7 +9,7 @@ use Rattle.basis.specs.Reduced.{basisOf}
 use Rattle.table.specs.Refusal.{Test}
 use Rattle.table.specs.Table.{tableTests}
 use Rattle.space.specs.Closure.{linearSpace, degree}
-use Rattle.space.specs.Completion.{completed, completedPoints, lowDegree, highDegree}
+use Rattle.space.specs.Completion.{completed, completedPoints, k0, k1}
 use Rattle.space.specs.Restriction.{equations, restriction}
 use Rattle.glospruma.specs.declared.LinearSpace.{LinearSpace}
 use Rattle.glospruma.specs.declared.Completion.{Completion}
@@ -41,12 +41,12 @@ completeAccepted n on free = record {
   refusal = 0;
   count = length (completedPoints n on free);
   degree = degree n (completed n on free);
-  low = lowDegree n on;
-  high = highDegree n on free;
+  k0 = k0 n on;
+  k1 = k1 n on free;
 }
 
 abbrev pub completeRefused : ℕ → Completion
-completeRefused number = record { refusal = number; count = 0; degree = 0; low = 0; high = 0 }
+completeRefused number = record { refusal = number; count = 0; degree = 0; k0 = 0; k1 = 0 }
 
 abbrev pub completeAnswer : ℕ → List ℕ → List ℕ → List ℕ → Completion
 completeAnswer n on free room = decide (completeTests n on free room) (completeAccepted n on free) completeRefused

@@ -36,8 +36,8 @@ pub struct Completion {
     pub refusal: u8,
     pub count: usize,
     pub degree: usize,
-    pub low: usize,
-    pub high: usize,
+    pub k0: usize,
+    pub k1: usize,
 }
 
 // The completed function's linear space, canonical variables by index, equation masks, and how many points its restriction has.
@@ -101,8 +101,8 @@ fn no_completion(refusal: u8) -> Completion
         refusal,
         count: 0,
         degree: 0,
-        low: 0,
-        high: 0,
+        k0: 0,
+        k1: 0,
     }
 }
 
@@ -133,8 +133,8 @@ pub extern "C" fn glospruma_complete(
         refusal: 0,
         count,
         degree: basis.len,
-        low: completed.low,
-        high: completed.high,
+        k0: completed.k0,
+        k1: completed.k1,
     }
 }
 

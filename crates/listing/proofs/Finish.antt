@@ -15,11 +15,11 @@ use Rattle.cubes.specs.Cubes.{Candidate, degree}
 use Rattle.cubes.specs.Candidates.{candidates, candidatesOf, candidatesFrom, candidateCount}
 use Rattle.cubes.specs.Primes.{isPrime}
 use Rattle.cubes.specs.Records.{maxListed, recordLength, recordsOf}
-use Rattle.cubes.specs.Listing.{Call, primeOf, passage, listing, Listed, listingFault, Answer, refusing, answer, listingRoom}
+use Rattle.cubes.specs.Listing.{Call, primeOf, passage, listing, ListingRule, listingFault, Answer, refusing, answer, listingRoom}
 use Rattle.cubes.proofs.Cubes.{degree-most}
 use Rattle.cubes.proofs.Candidates.{candidate-is}
 use Rattle.cubes.proofs.Lists.{mem-append, keep-mem, take-mem}
-use Rattle.cubes.proofs.Listing.{records-length, answer-on, answer-off, room-on, room-off, call-listed, accepted-place}
+use Rattle.cubes.proofs.Listing.{records-length, answer-on, answer-off, room-on, room-off, call-rule, accepted-place}
 use Rattle.counts.proofs.Counts.{count-at}
 use Rattle.listing.specs.declared.Start.{Start}
 use Rattle.masks.specs.Points.{MaskOf, primeBy}
@@ -94,9 +94,9 @@ module _ (n : ℕ) (on free : List ℕ) (place allowance : ℕ) (room : List ℕ
       (walk-is (primeBy n onMask freeMask) (drop (start .skip) (candidatesFrom n (start .degree)))
       (λ d m. call-small d (from-more n (start .degree) n (s .short) d (drop-mem (start .skip) (candidatesFrom n (start .degree)) d m))) allowance room)))
 
-  rule : Listed (primeOf (this .table)) (drop place (candidates n)) allowance (length room) (listing this)
+  rule : ListingRule (primeOf (this .table)) (drop place (candidates n)) allowance (length room) (listing this)
   unfolding this
-  rule = call-listed this
+  rule = call-rule this
 
   went : allowance - u .tally .left ≡ listing this .passed
   went = omega (arith, ends .left, rule .paid)

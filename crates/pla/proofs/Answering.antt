@@ -24,8 +24,8 @@ use Rattle.pla_cubes.specs.Flagging.{Flagged}
 use Rattle.pla_cubes.specs.declared.Flags.{Flags}
 use Rattle.pla_lines.specs.declared.Head.{Head}
 use Rattle.pla_lines.specs.declared.Reading.{Reading}
-use Rattle.pla_lines.specs.Reading.{Found, readText}
-use Rattle.pla_lines.specs.Bounds.{Agrees}
+use Rattle.pla_lines.specs.Reading.{Gathered, readText}
+use Rattle.pla_lines.specs.Bounds.{GatheredBy}
 use Rattle.pla_lines.proofs.Going.{text-bounded}
 use Rattle.pla.specs.declared.PlaRead.{PlaRead}
 use Rattle.pla.specs.Table.{flagOn, flagFree, flagMarks, marksOf, storedTable}
@@ -40,16 +40,16 @@ flag-marks kind n flags rows h f =
 
 -- ---- the tests of a text
 
-pub line-fault : (output : ℕ) (f : Found) → f .fault ≢ 0 → f .fault ≡ firstFault (textTests output f)
+pub line-fault : (output : ℕ) (f : Gathered) → f .fault ≢ 0 → f .fault ≡ firstFault (textTests output f)
 unfolding textTests firstFault
 line-fault output f n = rw (ne-eqb (f .fault) 0 n)
 
-pub end-faults : (output : ℕ) (f : Found) → f .fault ≡ 0 → firstFault (endTests output (f .head)) ≡ firstFault (textTests output f)
+pub end-faults : (output : ℕ) (f : Gathered) → f .fault ≡ 0 → firstFault (endTests output (f .head)) ≡ firstFault (textTests output f)
 unfolding textTests
 end-faults output f e = rw (eq-eqb (f .fault) 0 e)
 
 -- None of them gives 0.
-pub text-numbered : (output : ℕ) (f : Found) → Numbered (textTests output f)
+pub text-numbered : (output : ℕ) (f : Gathered) → Numbered (textTests output f)
 unfolding textTests holds
 text-numbered output f = go (ℕ-discrete (f .fault) 0)
   where
@@ -64,7 +64,7 @@ text-numbered output f = go (ℕ-discrete (f .fault) 0)
 -- ---- the answer by what was found
 
 module _ (text : List ℕ) (output : ℕ) (room : List ℕ) where
-  abbrev f : Found
+  abbrev f : Gathered
   f = readText output text
 
   pub pla-refused : (k : ℕ) → k ≡ firstFault (textTests output f) → k ≢ 0 → (refusedPla f k ≡ plaAnswer text output room) × (room ≡ plaAfter text output room)
@@ -82,7 +82,7 @@ module _ (text : List ℕ) (output : ℕ) (room : List ℕ) where
 
 -- ---- what the code has read
 
-module _ (text : List ℕ) (output : ℕ) (r : Reading) (a : Agrees r (readText output text)) where
+module _ (text : List ℕ) (output : ℕ) (r : Reading) (a : GatheredBy r (readText output text)) where
   -- There are never more inputs than variables of a table, and never more marks than points.
   pub few-inputs : r .head .variables ≤ maxVariables
   few-inputs = rw (a .head) (text-bounded output text)
@@ -158,7 +158,7 @@ pla-length text output room = go (ℕ-discrete (firstFault (textTests output (re
 
 -- ---- the refusal number is exact
 
-pla-numbered : (output : ℕ) (f : Found) (room : List ℕ) → Numbered (plaTests output f room)
+pla-numbered : (output : ℕ) (f : Gathered) (room : List ℕ) → Numbered (plaTests output f room)
 pla-numbered output f room t k =
     elim (append-mem (textTests output f) (roomTest (tableFound f) room) t k) [
       | inl m ↦ text-numbered output f t m

@@ -21,14 +21,14 @@ use Rattle.table.specs.Decision.{front, roomTest}
 use Rattle.table.proofs.Refusal.{no-fault, numbered, fault-before}
 use Rattle.table.proofs.Decide.{decide-accepted, decide-refused}
 use Rattle.table.proofs.Table.{good-count, not-outside, not-unordered}
-use Rattle.stored.specs.Marks.{Mark, mark, pointsOf, storedVariables, storedOn, storedFree}
+use Rattle.stored.specs.Marks.{Mark, mark, markedPoints, storedVariables, storedOn, storedFree}
 use Rattle.stored.specs.Encoding.{encodeTable}
 use Rattle.stored.specs.Stored.{storedFault}
 use Rattle.stored.proofs.Encodings.{encoded-laid, encoded-variables, encoded-marks}
 use Rattle.stored.proofs.Points.{points-append}
 use Rattle.pla_cubes.specs.Cubes.{Row}
 use Rattle.pla_cubes.specs.Meaning.{onAt, freeAt}
-use Rattle.pla_lines.specs.Reading.{Found, readText}
+use Rattle.pla_lines.specs.Reading.{Gathered, readText}
 use Rattle.pla_lines.proofs.Going.{text-bounded}
 use Rattle.pla.specs.declared.PlaRead.{PlaRead}
 use Rattle.pla.specs.Answer.{endTests, textTests, tableFound, plaTests, acceptedPla, refusedPla, plaAnswer, plaAfter}
@@ -57,28 +57,28 @@ module _ (on free : ℕ → Bool) where
       go false true e = map-snoc (λ m. m .point) (marksBelow on free k) (mark false k) ∙ ap (λ (l : List ℕ). l ++ (k ∷ [])) e
       go false false e = ap (map (λ m. m .point)) (append-nil (marksBelow on free k)) ∙ e
 
-  on-marked : (k : ℕ) → pointsOf true (marksBelow on free k) ≡ select on k
-  unfolding marksBelow markOf select pointsOf
+  on-marked : (k : ℕ) → markedPoints true (marksBelow on free k) ≡ select on k
+  unfolding marksBelow markOf select markedPoints
   on-marked zero = refl
   on-marked (suc k) = points-append true (marksBelow on free k) (markOf (on k) (free k) k) ∙ go (on k) (free k) (on-marked k)
     where
-      go : (a b : Bool) → pointsOf true (marksBelow on free k) ≡ select on k
-          → pointsOf true (marksBelow on free k) ++ pointsOf true (markOf a b k) ≡ cond a (select on k ++ (k ∷ [])) (select on k)
+      go : (a b : Bool) → markedPoints true (marksBelow on free k) ≡ select on k
+          → markedPoints true (marksBelow on free k) ++ markedPoints true (markOf a b k) ≡ cond a (select on k ++ (k ∷ [])) (select on k)
       go true b e = ap (λ (l : List ℕ). l ++ (k ∷ [])) e
-      go false true e = append-nil (pointsOf true (marksBelow on free k)) ∙ e
-      go false false e = append-nil (pointsOf true (marksBelow on free k)) ∙ e
+      go false true e = append-nil (markedPoints true (marksBelow on free k)) ∙ e
+      go false false e = append-nil (markedPoints true (marksBelow on free k)) ∙ e
 
-  free-marked : (k : ℕ) → pointsOf false (marksBelow on free k) ≡ select (λ p. not (on p) && free p) k
-  unfolding marksBelow markOf select pointsOf
+  free-marked : (k : ℕ) → markedPoints false (marksBelow on free k) ≡ select (λ p. not (on p) && free p) k
+  unfolding marksBelow markOf select markedPoints
   free-marked zero = refl
   free-marked (suc k) = points-append false (marksBelow on free k) (markOf (on k) (free k) k) ∙ go (on k) (free k) (free-marked k)
     where
-      go : (a b : Bool) → pointsOf false (marksBelow on free k) ≡ select (λ p. not (on p) && free p) k
-          → pointsOf false (marksBelow on free k) ++ pointsOf false (markOf a b k)
+      go : (a b : Bool) → markedPoints false (marksBelow on free k) ≡ select (λ p. not (on p) && free p) k
+          → markedPoints false (marksBelow on free k) ++ markedPoints false (markOf a b k)
           ≡ cond (not a && b) (select (λ p. not (on p) && free p) k ++ (k ∷ [])) (select (λ p. not (on p) && free p) k)
-      go true b e = append-nil (pointsOf false (marksBelow on free k)) ∙ e
+      go true b e = append-nil (markedPoints false (marksBelow on free k)) ∙ e
       go false true e = ap (λ (l : List ℕ). l ++ (k ∷ [])) e
-      go false false e = append-nil (pointsOf false (marksBelow on free k)) ∙ e
+      go false false e = append-nil (markedPoints false (marksBelow on free k)) ∙ e
 
 -- ---- the table
 
@@ -107,8 +107,8 @@ module _ (on free : ℕ → Bool) (n : ℕ) (some : 1 ≤ n) (few : n ≤ maxVar
       record {
         accepted = sound;
         variables = encoded-variables n ms;
-        on-points = ap (pointsOf true) (encoded-marks n ms) ∙ on-marked on free (2 ^ n);
-        free-points = ap (pointsOf false) (encoded-marks n ms) ∙ free-marked on free (2 ^ n);
+        on-points = ap (markedPoints true) (encoded-marks n ms) ∙ on-marked on free (2 ^ n);
+        free-points = ap (markedPoints false) (encoded-marks n ms) ∙ free-marked on free (2 ^ n);
       }
 
 -- The stored table of rows.
@@ -119,7 +119,7 @@ table-stored kind n rows some few = marks-stored (onAt rows) (freeAt kind rows) 
 -- ---- the call
 
 module _ (text : List ℕ) (output : ℕ) (room : List ℕ) (accepts : plaAnswer text output room .refusal ≡ 0) where
-  abbrev f : Found
+  abbrev f : Gathered
   f = readText output text
 
   none : firstFault (plaTests output f room) ≡ 0

@@ -7,7 +7,7 @@ use lib.ListN.{length}
 use Rattle.table.specs.Refusal.{Test, test}
 use Rattle.table.specs.Decision.{decide, roomAfter, roomTest}
 use Rattle.pla_lines.specs.declared.Head.{Head}
-use Rattle.pla_lines.specs.Reading.{Found, readText}
+use Rattle.pla_lines.specs.Reading.{Gathered, readText}
 use Rattle.pla.specs.declared.PlaRead.{PlaRead}
 use Rattle.pla.specs.Table.{storedTable}
 
@@ -36,23 +36,23 @@ endTests output head =
 -- ---- the call
 
 -- The stored table of what was found.
-abbrev pub tableFound : Found → List ℕ
+abbrev pub tableFound : Gathered → List ℕ
 tableFound f = storedTable (f .head .kind) (f .head .variables) (f .rows)
 
 -- The tests of a text: where a line is at fault, that fault alone; otherwise those at the end.
-unfoldable pub textTests : ℕ → Found → List Test
+unfoldable pub textTests : ℕ → Gathered → List Test
 textTests output f = cond (eqb (f .fault) 0) (endTests output (f .head)) (test (f .fault) true ∷ [])
 
 -- All tests of the call; the last is that the stored table is longer than the room.
-abbrev pub plaTests : ℕ → Found → List ℕ → List Test
+abbrev pub plaTests : ℕ → Gathered → List ℕ → List Test
 plaTests output f room = textTests output f ++ roomTest (tableFound f) room
 
 -- A refusal returns its number and, where a line is at fault, that line.
-abbrev pub refusedPla : Found → ℕ → PlaRead
+abbrev pub refusedPla : Gathered → ℕ → PlaRead
 refusedPla f number = record { refusal = number; line = f .line; length = 0 }
 
 -- An accepted text returns the length of its stored table.
-abbrev pub acceptedPla : Found → PlaRead
+abbrev pub acceptedPla : Gathered → PlaRead
 acceptedPla f = record { refusal = 0; line = 0; length = length (tableFound f) }
 
 -- The numbers returned.

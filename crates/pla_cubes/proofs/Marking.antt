@@ -13,7 +13,7 @@ use Rattle.gf2.specs.Finite.{all}
 use Rattle.gf2.proofs.Finite.{all-at}
 use Rattle.table.specs.Flags.{maxPoints}
 use Rattle.pla_cubes.specs.Cubes.{Row, covers, says}
-use Rattle.pla_cubes.specs.Flagging.{Marks}
+use Rattle.pla_cubes.specs.Flagging.{FlagsAre}
 
 -- ---- flags set one by one
 
@@ -41,7 +41,7 @@ marking-next {f} {old} {flags} {i} v h e m =
 
 pub says-next : (b : ℕ) (row : Row) (rows : List Row) (old flags : List Bool)
     → ((p : ℕ) → p < maxPoints → getD flags p false ≡ (eqb (row .output) b && covers (row .inputs) p) || getD old p false)
-    → Marks old (says b rows) → Marks flags (says b (row ∷ rows))
+    → FlagsAre old (says b rows) → FlagsAre flags (says b (row ∷ rows))
 unfolding says
 says-next b row rows old flags h m p k = h p k ∙ (rw (m p k))
 

@@ -9,11 +9,11 @@ use Rattle.pla_cubes.specs.declared.Flags.{Flags}
 use Rattle.pla_cubes.specs.Cubes.{Row, says, symbol0, symbol1, dash}
 
 -- The flags are those of the points that pass the test.
-abbrev pub Marks : List Bool → (ℕ → Bool) → Type 0
-Marks flags f = (p : ℕ) → p < maxPoints → getD flags p false ≡ f p
+abbrev pub FlagsAre : List Bool → (ℕ → Bool) → Type 0
+FlagsAre flags f = (p : ℕ) → p < maxPoints → getD flags p false ≡ f p
 
 -- The flags hold what the rows say.
 pub record Flagged (flags : Flags) (rows : List Row) : Type 0 where
-  pub ones : Marks (flags .one) (says symbol1 rows)
-  pub zeros : Marks (flags .zero) (says symbol0 rows)
-  pub dashes : Marks (flags .dash) (says dash rows)
+  pub ones : FlagsAre (flags .one) (says symbol1 rows)
+  pub zeros : FlagsAre (flags .zero) (says symbol0 rows)
+  pub dashes : FlagsAre (flags .dash) (says dash rows)

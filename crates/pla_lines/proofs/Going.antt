@@ -18,9 +18,9 @@ use Rattle.pla_cubes.specs.Cubes.{Row, says, symbol0, symbol1, dash}
 use Rattle.pla_cubes.specs.Flagging.{Flagged}
 use Rattle.pla_lines.specs.declared.Head.{Head}
 use Rattle.pla_lines.specs.declared.Reading.{Reading}
-use Rattle.pla_lines.specs.Reading.{Found, found, readStatement, readContent, readFrom, readText}
+use Rattle.pla_lines.specs.Reading.{Gathered, found, readStatement, readContent, readFrom, readText}
 use Rattle.pla_lines.specs.Lines.{noHead, lineFault}
-use Rattle.pla_lines.specs.Bounds.{Bounded, Agrees}
+use Rattle.pla_lines.specs.Bounds.{Bounded, GatheredBy}
 use Rattle.pla_lines.proofs.Judging.{accepted-is, bounded-after}
 
 -- ---- the next line
@@ -89,7 +89,7 @@ bounded-next output number head rows content b e =
 
 module _ (text : List ℕ) (output from : ℕ) (inside : from ≤ length text) (end : ℕ) (ended : end ≡ from + length (until isNewline (drop from text)))
     (number : ℕ) (head : Head) (rows : List Row) (r : Reading)
-    (agrees : Agrees r (readContent output number head rows (contentOf (take (end - from) (drop from text)))))
+    (agrees : GatheredBy r (readContent output number head rows (contentOf (take (end - from) (drop from text)))))
     (so-far : readFrom output number head rows (linesOf (drop from text)) ≡ readText output text) where
   abbrev line : List ℕ
   line = take (end - from) (drop from text)
@@ -102,14 +102,14 @@ module _ (text : List ℕ) (output from : ℕ) (inside : from ≤ length text) (
       go (yes e) = ([], last-line text from inside end ended e)
       go (no n) = (linesOf (drop (end + 1) text), next-line text from inside end ended (omega (arith, line-inside text from inside end ended .1, n)))
 
-  pub stopped : r .fault ≢ 0 → Agrees r (readText output text)
+  pub stopped : r .fault ≢ 0 → GatheredBy r (readText output text)
   stopped n =
       let first = first-line in
       let stop = read-stop output number head rows line (first .0) (λ e. n (agrees .fault ∙ e)) in
       let whole = sym so-far ∙ ap (readFrom output number head rows) (first .1) ∙ stop in
       rw whole agrees
 
-  pub finished : r .fault ≡ 0 → end ≡ length text → Agrees r (readText output text)
+  pub finished : r .fault ≡ 0 → end ≡ length text → GatheredBy r (readText output text)
   finished z e =
       let last = read-last output number head rows line (sym (agrees .fault) ∙ z) in
       let whole = sym so-far ∙ ap (readFrom output number head rows) (last-line text from inside end ended e) ∙ last in
@@ -159,7 +159,7 @@ from-bounded : (output number : ℕ) (head : Head) (rows : List Row) (lines : Li
 from-bounded output number head rows [] b = rw (read-none output number head rows) (b .inputs)
 from-bounded output number head rows (line ∷ lines) b = go (ℕ-discrete (f .fault) 0) (λ e. from-bounded output (number + 1) (f .head) (f .rows) lines (bounded-next output number head rows (contentOf line) b e))
   where
-    f : Found
+    f : Gathered
     f = readContent output number head rows (contentOf line)
 
     go : Dec (f .fault ≡ 0) → (f .fault ≡ 0 → readFrom output (number + 1) (f .head) (f .rows) lines .head .variables ≤ maxVariables) → readFrom output number head rows (line ∷ lines) .head .variables ≤ maxVariables

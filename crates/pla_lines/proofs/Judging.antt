@@ -28,7 +28,7 @@ use Rattle.pla_lines.specs.declared.Head.{Head}
 use Rattle.pla_lines.specs.declared.Reading.{Reading}
 use Rattle.pla_lines.specs.Lines.{directiveTests, shapeTests, lineFault, headAfter, rowsAfter, contradictionFault, badOutputs}
 use Rattle.pla_lines.specs.Reading.{found, readStatement}
-use Rattle.pla_lines.specs.Bounds.{Bounded, Agrees}
+use Rattle.pla_lines.specs.Bounds.{Bounded, GatheredBy}
 
 -- ---- a statement that is no cube
 
@@ -50,13 +50,13 @@ line-directive output head rows symbols Cube n = absurd (n refl)
 module _ (output number : ℕ) (head : Head) (rows : List Row) (symbols : List ℕ) (s : Statement) where
   -- At fault: the head and the rows stay.
   pub read-refused : {flags : Flags} {r : Reading} (fault : ℕ) → lineFault output head rows symbols s ≡ fault → fault ≢ 0
-      → r ≡ record { fault = fault; line = number; head = head; flags = flags } → Flagged flags rows → Agrees r (readStatement output number head rows symbols s)
+      → r ≡ record { fault = fault; line = number; head = head; flags = flags } → Flagged flags rows → GatheredBy r (readStatement output number head rows symbols s)
   read-refused fault e n q f =
       rw (e, ne-eqb fault 0 n, q) (record { fault = refl; line = refl; head = refl; flagged = f })
 
   -- Not at fault.
   pub read-accepted : {flags : Flags} {next : Head} → lineFault output head rows symbols s ≡ 0 → next ≡ headAfter head s → Flagged flags (rowsAfter output head rows symbols s)
-      → Agrees (record { fault = 0; line = 0; head = next; flags = flags }) (readStatement output number head rows symbols s)
+      → GatheredBy (record { fault = 0; line = 0; head = next; flags = flags }) (readStatement output number head rows symbols s)
   read-accepted e q f =
       rw e (record { fault = refl; line = refl; head = q; flagged = f })
 
@@ -73,11 +73,11 @@ module _ (output number : ℕ) (head : Head) (rows : List Row) (symbols : List �
 -- A directive, refused and not.
 module _ {flags : Flags} (number : ℕ) (head : Head) (s : Statement) (output : ℕ) (rows : List Row) (symbols : List ℕ) (f : Flagged flags rows) (other : s ≢ Cube) where
   pub directive-refused : {r : Reading} (fault : ℕ) → fault ≡ firstFault (directiveTests head s) → fault ≢ 0
-      → r ≡ record { fault = fault; line = number; head = head; flags = flags } → Agrees r (readStatement output number head rows symbols s)
+      → r ≡ record { fault = fault; line = number; head = head; flags = flags } → GatheredBy r (readStatement output number head rows symbols s)
   directive-refused fault e n q = read-refused output number head rows symbols s fault (line-directive output head rows symbols s other .0 ∙ sym e) n q f
 
   pub directive-accepted : {next : Head} → firstFault (directiveTests head s) ≡ 0 → next ≡ headAfter head s
-      → Agrees (record { fault = 0; line = 0; head = next; flags = flags }) (readStatement output number head rows symbols s)
+      → GatheredBy (record { fault = 0; line = 0; head = next; flags = flags }) (readStatement output number head rows symbols s)
   directive-accepted e q =
       let l = line-directive output head rows symbols s other in
       read-accepted output number head rows symbols s (l .0 ∙ e) q (rw (l .1) f)
@@ -95,7 +95,7 @@ shape-cube head symbols e =
 
 module _ {flags : Flags} (number : ℕ) (head : Head) (output : ℕ) (symbols : List ℕ) (rows : List Row) (f : Flagged flags rows) where
   pub cube-refused : {r : Reading} (fault : ℕ) → fault ≡ firstFault (shapeTests head symbols) → fault ≢ 0
-      → r ≡ record { fault = fault; line = number; head = head; flags = flags } → Agrees r (readStatement output number head rows symbols Cube)
+      → r ≡ record { fault = fault; line = number; head = head; flags = flags } → GatheredBy r (readStatement output number head rows symbols Cube)
   unfolding lineFault
   cube-refused fault e n q =
       read-refused output number head rows symbols Cube fault (fault-before (shapeTests head symbols) _ (λ z. n (e ∙ z)) ∙ sym e) n q f
@@ -116,14 +116,14 @@ module _ {flags : Flags} (number : ℕ) (head : Head) (output : ℕ) (symbols : 
 
     pub cube-clashes : {r : Reading} (clash : Bool)
         → clash ≡ eqb (head .kind) typeFr && not (apartBelow (λ p. getD (marked .one) p false) (λ p. getD (marked .zero) p false) (head .variables)) → clash ≡ true
-        → r ≡ record { fault = contradictionFault; line = number; head = head; flags = flags } → Agrees r (readStatement output number head rows symbols Cube)
+        → r ≡ record { fault = contradictionFault; line = number; head = head; flags = flags } → GatheredBy r (readStatement output number head rows symbols Cube)
     unfolding firstFault
     cube-clashes clash e t q =
         read-refused output number head rows symbols Cube contradictionFault (line-is ∙ rw (sym (e ∙ clash-is) ∙ t)) (λ z. omega arith) q f
 
     pub cube-accepted : {next : Head} (clash : Bool)
         → clash ≡ eqb (head .kind) typeFr && not (apartBelow (λ p. getD (marked .one) p false) (λ p. getD (marked .zero) p false) (head .variables)) → clash ≡ false
-        → next ≡ headAfter head Cube → Agrees (record { fault = 0; line = 0; head = next; flags = marked }) (readStatement output number head rows symbols Cube)
+        → next ≡ headAfter head Cube → GatheredBy (record { fault = 0; line = 0; head = next; flags = marked }) (readStatement output number head rows symbols Cube)
     unfolding firstFault
     cube-accepted clash e t q =
         read-accepted output number head rows symbols Cube (line-is ∙ rw (sym (e ∙ clash-is) ∙ t)) q g

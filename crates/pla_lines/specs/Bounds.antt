@@ -6,7 +6,7 @@ use Rattle.pla_cubes.specs.Cubes.{maxOutputs}
 use Rattle.pla_cubes.specs.Flagging.{Flagged}
 use Rattle.pla_lines.specs.declared.Head.{Head}
 use Rattle.pla_lines.specs.declared.Reading.{Reading}
-use Rattle.pla_lines.specs.Reading.{Found}
+use Rattle.pla_lines.specs.Reading.{Gathered}
 
 -- Before the line of a number: the numbers of inputs and outputs are within their limits, and there are fewer cubes than that number.
 pub record Bounded (head : Head) (number : ℕ) : Type 0 where
@@ -15,7 +15,7 @@ pub record Bounded (head : Head) (number : ℕ) : Type 0 where
   pub cubes : head .cubes < number
 
 -- The code's reading is what was found; its flags hold what the rows say.
-pub record Agrees (r : Reading) (f : Found) : Type 0 where
+pub record GatheredBy (r : Reading) (f : Gathered) : Type 0 where
   pub fault : r .fault ≡ f .fault
   pub line : r .line ≡ f .line
   pub head : r .head ≡ f .head

@@ -17,7 +17,7 @@ ghost use Rattle.pla_cubes.specs.Meaning.{apartBelow};
 ghost use Rattle.pla_cubes.specs.Flagging.{Flagged};
 ghost use Rattle.pla_lines.specs.Lines.{afterEnd, afterFault, badOutputs, directiveTests, headAfter, outOfTurn, shapeTests};
 ghost use Rattle.pla_lines.specs.Reading.{readContent, readStatement, readText};
-ghost use Rattle.pla_lines.specs.Bounds.{Agrees, Bounded};
+ghost use Rattle.pla_lines.specs.Bounds.{GatheredBy, Bounded};
 use pla_cubes::Flags;
 use pla_text::Statement;
 use pla_text::Stop;
@@ -209,7 +209,7 @@ fn read_directive(statement: Statement, number: usize, head: Head, flags: Flags)
     requires { ⌜ head .cubes < number ⌝ }
     ensures { λ r.
         ⌜
-        ((output : ℕ) (rows : List Row) (symbols : List ℕ) → Flagged flags rows → statement ≢ Cube → Agrees r (readStatement output number head rows symbols statement))
+        ((output : ℕ) (rows : List Row) (symbols : List ℕ) → Flagged flags rows → statement ≢ Cube → GatheredBy r (readStatement output number head rows symbols statement))
         ⌝ }
 {
     let fault = directive_fault(head, statement);
@@ -229,7 +229,7 @@ fn read_directive(statement: Statement, number: usize, head: Head, flags: Flags)
 fn read_cube(content: &[u8], number: usize, output: usize, head: Head, flags: Flags) -> Reading
     requires { ⌜ Bounded head number ⌝ }
     ensures { λ r.
-        ⌜ ((rows : List Row) → Flagged flags rows → Agrees r (readStatement output number head rows (symbolsOf (now (content .entry))) Cube)) ⌝ }
+        ⌜ ((rows : List Row) → Flagged flags rows → GatheredBy r (readStatement output number head rows (symbolsOf (now (content .entry))) Cube)) ⌝ }
 {
     let fault = shape_fault(content, head);
     if fault != 0 {
@@ -254,7 +254,7 @@ fn read_cube(content: &[u8], number: usize, output: usize, head: Head, flags: Fl
 // A line.
 fn read_line(line: &[u8], number: usize, output: usize, head: Head, flags: Flags) -> Reading
     requires { ⌜ Bounded head number ⌝ }
-    ensures { λ r. ⌜ ((rows : List Row) → Flagged flags rows → Agrees r (readContent output number head rows (contentOf (now (line .entry))))) ⌝ }
+    ensures { λ r. ⌜ ((rows : List Row) → Flagged flags rows → GatheredBy r (readContent output number head rows (contentOf (now (line .entry))))) ⌝ }
 {
     let end = pla_text::run_end(line, 0, Stop::Hash);
     let content = &line[..end];
@@ -267,7 +267,7 @@ fn read_line(line: &[u8], number: usize, output: usize, head: Head, flags: Flags
 
 // All lines of a text, up to the first at fault.
 pub fn read_lines(text: &[u8], output: usize) -> Reading
-    ensures { λ r. ⌜ Agrees r (readText output (now (text .entry))) ⌝ }
+    ensures { λ r. ⌜ GatheredBy r (readText output (now (text .entry))) ⌝ }
 {
     let mut head = Head {
         variables: 0,

@@ -17,7 +17,7 @@ use Rattle.gf2.specs.Parity.{odd}
 use Rattle.gf2.proofs.Logic.{clash, and-l, and-r, and-i, and-true, and-exchange, or-l, or-r, or-cases, beq-eq, eq-beq}
 use Rattle.gf2.proofs.Finite.{getD-mem}
 use Rattle.product.specs.Lowest.{lowest}
-use Rattle.product.specs.Product.{Factor, factor, every, factorAt, productAt, someProductAt, Fits, fits, maskAt, Canonical, Apart, apartMasks, apart, canonical, agrees}
+use Rattle.product.specs.Product.{Factor, factor, every, factorAt, productAt, someProductAt, Fits, fits, maskAt, Canonical, LowestApart, apartMasks, apart, canonical, agrees}
 use Rattle.product.proofs.LowestBit.{lowest-below, lowest-fits}
 
 -- ---- every element of a list
@@ -96,7 +96,7 @@ fits-lowest {n} {f} h = lowest-fits n (f .mask) (h .some) (h .below)
 
 -- ---- two masks of a canonical product
 
-pub apart-is : (a b : ℕ) → (apartMasks a b ≡ true) ↔ Apart a b
+pub apart-is : (a b : ℕ) → (apartMasks a b ≡ true) ↔ LowestApart a b
 unfolding apartMasks
 apart-is a b = (
   λ e.
@@ -123,7 +123,7 @@ apart-two a b p = go (ltb (lowest b) (lowest a)) refl (bit (lowest a) b)
 
 -- Each mask is apart from all that follow.
 abbrev pub Separate : List Factor → Type 0
-Separate fs = Ordered (λ (f g : Factor). Apart (f .mask) (g .mask)) fs
+Separate fs = Ordered (λ (f g : Factor). LowestApart (f .mask) (g .mask)) fs
 
 pub canonical-separate : (fs : List Factor) → (canonical fs ≡ true) ↔ Separate fs
 unfolding canonical apart
@@ -156,8 +156,8 @@ separate-canonical fs o = record {
   falls = λ i h. at i (suc i) (omega arith) h .falls;
 }
   where
-    at : (i j : ℕ) → i < j → j < length fs → Apart (maskAt fs i) (maskAt fs j)
-    at = ordered-at (λ (f g : Factor). Apart (f .mask) (g .mask)) fs (factor 0 0) o
+    at : (i j : ℕ) → i < j → j < length fs → LowestApart (maskAt fs i) (maskAt fs j)
+    at = ordered-at (λ (f g : Factor). LowestApart (f .mask) (g .mask)) fs (factor 0 0) o
 
 -- The lowest bits of later factors are below the first one's.
 falls-first : (fs : List Factor) → Canonical fs → (i : ℕ) → suc i < length fs → lowest (maskAt fs (suc i)) < lowest (maskAt fs 0)
@@ -174,7 +174,7 @@ pub separate : (fs : List Factor) → Canonical fs → Separate fs
 separate [] c = tt
 separate (f ∷ fs) c = (λ g m. first (mem-at fs (factor 0 0) g m), separate fs (canonical-tail f fs c))
   where
-    first : {g : Factor} → (i : ℕ) × (i < length fs) × (g ≡ getD fs i (factor 0 0)) → Apart (f .mask) (g .mask)
+    first : {g : Factor} → (i : ℕ) × (i < length fs) × (g ≡ getD fs i (factor 0 0)) → LowestApart (f .mask) (g .mask)
     first {g} k =
         let h : suc (k .0) < length (f ∷ fs) = omega (arith, k .1) in
         let p : 0 < length (f ∷ fs) = zero-lt-suc (length fs) in

@@ -64,7 +64,7 @@ pub record Canonical (fs : List Factor) : Type 0 where
 
 -- The masks of two factors of a canonical product, the first before the second: the lowest bit of the second is below that of the first, and
 -- neither lowest bit is set in the other mask.
-pub record Apart (first second : ℕ) : Type 0 where
+pub record LowestApart (first second : ℕ) : Type 0 where
   pub falls : lowest second < lowest first
   pub later : bit (lowest first) second ≡ false
   pub earlier : bit (lowest second) first ≡ false

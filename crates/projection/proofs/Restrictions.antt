@@ -10,7 +10,7 @@ use Rattle.gf2.specs.Limits.{maxVariables}
 use Rattle.gf2.specs.Finite.{Mem}
 use Rattle.gf2.specs.Basis.{leadMask}
 use Rattle.basis.specs.declared.Basis.{Basis}
-use Rattle.basis.specs.Reduced.{vectorsOf, Spans}
+use Rattle.basis.specs.Reduced.{vectorsOf, BasisWithin}
 use Rattle.basis.proofs.Values.{basis-len, vectors-back}
 use Rattle.table.specs.Table.{outside, unordered}
 use Rattle.table.proofs.Table.{not-outside, not-unordered}
@@ -26,7 +26,7 @@ use Rattle.projection.proofs.Masks.{kept-restriction}
 
 -- ---- a basis of n variables
 
-module _ {n : ℕ} {b : Basis} (s : Spans n b) where
+module _ {n : ℕ} {b : Basis} (s : BasisWithin n b) where
   left-over : length (equations n (vectorsOf b)) + b .len ≡ n
   left-over = omega (arith, basis-len b (s .basis), equations-length n (vectorsOf b) (s .basis .reduced) (s .below))
 
@@ -65,7 +65,7 @@ module _ {n : ℕ} {on free : List ℕ} {r : Completed} (k : IsCompleted n on fr
   pub completed-len : r .basis .len ≡ length (linearSpace n f)
   completed-len = ap (λ (b : Basis). b .len) (k .basis .value)
 
-  pub completed-spans : n ≤ maxVariables → Spans n (r .basis)
+  pub completed-spans : n ≤ maxVariables → BasisWithin n (r .basis)
   completed-spans h = record { few = h; basis = k .basis .basis; below = λ c m. linear-below n f c (subst (Mem c) completed-vectors m) }
 
   pub completed-restriction : restriction n (vectorsOf (r .basis)) (flagged (r .flags)) ≡ restriction n (linearSpace n f) f

@@ -12,24 +12,24 @@ use Rattle.gf2.specs.Finite.{Mem, holds, Rising, In}
 use Rattle.gf2.proofs.Logic.{same, cond-cases, or-l, or-false}
 use Rattle.gf2.proofs.Finite.{holds-mem, select-mem, mem-select, select-rising}
 use Rattle.space.specs.Closure.{degree}
-use Rattle.space.specs.Completion.{allOff, allOn, lowDegree, highDegree, completed, completedPoints}
+use Rattle.space.specs.Completion.{allOff, allOn, k0, k1, completed, completedPoints}
 
 -- ---- which of the two it is
 
-pub completed-off : (n : ℕ) (on free : List ℕ) → highDegree n on free ≤ lowDegree n on → completed n on free ≡ allOff on
+pub completed-off : (n : ℕ) (on free : List ℕ) → k1 n on free ≤ k0 n on → completed n on free ≡ allOff on
 unfolding completed
-completed-off n on free h = rw (le-ltb (lowDegree n on) (highDegree n on free) h)
+completed-off n on free h = rw (le-ltb (k0 n on) (k1 n on free) h)
 
-pub completed-on : (n : ℕ) (on free : List ℕ) → lowDegree n on < highDegree n on free → completed n on free ≡ allOn on free
+pub completed-on : (n : ℕ) (on free : List ℕ) → k0 n on < k1 n on free → completed n on free ≡ allOn on free
 unfolding completed
-completed-on n on free h = rw (lt-ltb (lowDegree n on) (highDegree n on free) h)
+completed-on n on free h = rw (lt-ltb (k0 n on) (k1 n on free) h)
 
 -- What holds of both holds of the completed function.
-pub completed-cases : (n : ℕ) (on free : List ℕ) (P : (ℕ → Bool) → Type 0) → (lowDegree n on < highDegree n on free → P (allOn on free))
-    → (highDegree n on free ≤ lowDegree n on → P (allOff on)) → P (completed n on free)
+pub completed-cases : (n : ℕ) (on free : List ℕ) (P : (ℕ → Bool) → Type 0) → (k0 n on < k1 n on free → P (allOn on free))
+    → (k1 n on free ≤ k0 n on → P (allOff on)) → P (completed n on free)
 unfolding completed
-completed-cases n on free P a b = cond-cases P (ltb (lowDegree n on) (highDegree n on free)) (allOn on free) (allOff on)
-    (λ e. a (ltb-true (lowDegree n on) (highDegree n on free) e)) (λ e. b (ltb-false (lowDegree n on) (highDegree n on free) e))
+completed-cases n on free P a b = cond-cases P (ltb (k0 n on) (k1 n on free)) (allOn on free) (allOff on)
+    (λ e. a (ltb-true (k0 n on) (k1 n on free) e)) (λ e. b (ltb-false (k0 n on) (k1 n on free) e))
 
 -- ---- every on point on, every off point off
 
@@ -43,8 +43,8 @@ kept-off n on free w e g = completed-cases n on free (λ f. f w ≡ false) (λ h
 
 -- ---- the larger degree
 
-pub completed-degree : (n : ℕ) (on free : List ℕ) → degree n (completed n on free) ≡ max (lowDegree n on) (highDegree n on free)
-completed-degree n on free = completed-cases n on free (λ f. degree n f ≡ max (lowDegree n on) (highDegree n on free)) (λ h. omega arith) (λ h. omega arith)
+pub completed-degree : (n : ℕ) (on free : List ℕ) → degree n (completed n on free) ≡ max (k0 n on) (k1 n on free)
+completed-degree n on free = completed-cases n on free (λ f. degree n f ≡ max (k0 n on) (k1 n on free)) (λ h. omega arith) (λ h. omega arith)
 
 -- ---- the points of the completed function
 

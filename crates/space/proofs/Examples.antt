@@ -6,7 +6,7 @@ use Rattle.gf2.specs.Finite.{holds, all, select}
 use Rattle.gf2.specs.Bits.{bit, halvings, lead}
 use Rattle.gf2.specs.Basis.{clear, reduce, place, join, insert, inserts, reduces, irreducible, reducedBasis, isLead, placesAt, canonicalPlaces, variablesAt}
 use Rattle.space.specs.Closure.{closed, linearSpace, degree}
-use Rattle.space.specs.Completion.{allOn, lowDegree, highDegree, completed, completedPoints}
+use Rattle.space.specs.Completion.{allOn, k0, k1, completed, completedPoints}
 use Rattle.space.specs.Restriction.{equation, equations, number, project, clean, restriction}
 use Rattle.space.specs.Affine.{directions, leastPoint, projection}
 
@@ -25,7 +25,7 @@ pub answer : Question → Answer
 answer (analysis n on free) =
     let f = completed n on free in
     let bs = linearSpace n f in
-    analysed (lowDegree n on) (highDegree n on free) (completedPoints n on free) bs (variablesAt n (canonicalPlaces n bs)) (equations n bs) (restriction n bs f)
+    analysed (k0 n on) (k1 n on free) (completedPoints n on free) bs (variablesAt n (canonicalPlaces n bs)) (equations n bs) (restriction n bs f)
 answer (affine n on) = space (leastPoint on) (directions on) (projection n (directions on) on)
 
 pub record Example : Type 0 where

@@ -20,24 +20,24 @@ unfoldable pub allOn : List ℕ → List ℕ → ℕ → Bool
 allOn on free w = holds on w || holds free w
 
 -- k0, the degree with all free points off.
-abbrev pub lowDegree : ℕ → List ℕ → ℕ
-lowDegree n on = degree n (allOff on)
+abbrev pub k0 : ℕ → List ℕ → ℕ
+k0 n on = degree n (allOff on)
 
 -- k1, the degree with all of them on.
-abbrev pub highDegree : ℕ → List ℕ → List ℕ → ℕ
-highDegree n on free = degree n (allOn on free)
+abbrev pub k1 : ℕ → List ℕ → List ℕ → ℕ
+k1 n on free = degree n (allOn on free)
 
 -- The completed function: the completion of the larger degree; on a tie, all off.
 unfoldable pub completed : ℕ → List ℕ → List ℕ → ℕ → Bool
-completed n on free = cond (ltb (lowDegree n on) (highDegree n on free)) (allOn on free) (allOff on)
+completed n on free = cond (ltb (k0 n on) (k1 n on free)) (allOn on free) (allOff on)
 
 -- The on points of the completed function, rising.
 unfoldable pub completedPoints : ℕ → List ℕ → List ℕ → List ℕ
 completedPoints n on free = select (completed n on free) (2 ^ n)
 
--- A table completed: the flags are those of the completed function, the basis is that of its linear space, and low and high are k0 and k1.
+-- A table completed: the flags are those of the completed function, the basis is that of its linear space, and the two degrees are k0 and k1.
 pub record IsCompleted (n : ℕ) (on free : List ℕ) (r : Completed) : Type 0 where
   pub flags : (w : ℕ) → w < 2 ^ n → flagged (r .flags) w ≡ completed n on free w
   pub basis : Built (r .basis) (linearSpace n (completed n on free)) (In n (closed n (completed n on free)))
-  pub low : r .low ≡ lowDegree n on
-  pub high : r .high ≡ highDegree n on free
+  pub k0 : r .k0 ≡ k0 n on
+  pub k1 : r .k1 ≡ k1 n on free

@@ -93,8 +93,8 @@ pub fn linear_space(flags: &[bool; MAX_POINTS], n: usize) -> Basis
 pub struct Completed {
     pub flags: [bool; MAX_POINTS],
     pub basis: Basis,
-    pub low: usize,
-    pub high: usize,
+    pub k0: usize,
+    pub k1: usize,
 }
 
 // The completion of an accepted table: that of the larger degree; on a tie, all free points off.
@@ -104,22 +104,22 @@ pub fn complete(n: usize, on: &[u16], free: &[u16]) -> Completed
 {
     let all_off = table::flags_of(on);
     let all_on = table::mark(free, all_off);
-    let low_space = linear_space(&all_off, n);
-    let high_space = linear_space(&all_on, n);
-    let low = low_space.degree();
-    let high = high_space.degree();
-    if low < high {
+    let space_off = linear_space(&all_off, n);
+    let space_on = linear_space(&all_on, n);
+    let k0 = space_off.degree();
+    let k1 = space_on.degree();
+    if k0 < k1 {
         return Completed {
             flags: all_on,
-            basis: high_space,
-            low,
-            high,
+            basis: space_on,
+            k0,
+            k1,
         };
     }
     Completed {
         flags: all_off,
-        basis: low_space,
-        low,
-        high,
+        basis: space_off,
+        k0,
+        k1,
     }
 }

@@ -23,7 +23,7 @@ use Rattle.records.specs.declared.Walk.the-variants.{Laid, WrongKind, Missing, 
 use Rattle.records.specs.declared.Step.the-variants.{Stop}
 use Rattle.records.specs.Walks.{bodyStep, afterEnd, goOn, isFault}
 use Rattle.records.proofs.Whole.{faulty}
-use Rattle.stored.specs.Layout.{firstStep, laterStep, recordStep, walkFrom, walked, firstPoint, tableLength, longestTable}
+use Rattle.stored.specs.Layout.{firstTableStep, laterStep, tableStep, walkTableFrom, walked, firstPoint, tableLength, longestTable}
 use Rattle.stored.specs.Marks.{Mark, mark, noMark, recordMarks, marks, storedPoints}
 use Rattle.stored.specs.Stored.{LaidOut}
 
@@ -57,7 +57,7 @@ cut End count place all rest next h e = faulty refl (rw (lt-leb 2 (length rest) 
 
 -- A record that begins where none can.
 module _ (byte count place all : ℕ) (rest : List ℕ) (next : ℕ → Walk) where
-  inner : goOn (recordStep byte count place rest) next ≡ Laid all → (place ≢ longestTable) × (goOn (laterStep (kindOf byte) count place rest) next ≡ Laid all)
+  inner : goOn (tableStep byte count place rest) next ≡ Laid all → (place ≢ longestTable) × (goOn (laterStep (kindOf byte) count place rest) next ≡ Laid all)
   inner = go (eqb place longestTable) refl
     where
       go : (t : Bool) → eqb place longestTable ≡ t → goOn (cond t (Stop (After place)) (laterStep (kindOf byte) count place rest)) next ≡ Laid all
@@ -79,12 +79,12 @@ module _ (byte low high : ℕ) (rest : List ℕ) (place count all : ℕ) where
   there : leb 2 (length (low ∷ high ∷ rest)) ≡ true
   there = le-leb 2 (length (low ∷ high ∷ rest)) (omega arith)
 
-  passed : walkFrom 2 (count + 1) (place + 1) (low ∷ high ∷ rest) ≡ walkFrom 0 (count + 1) (place + 3) rest
-  unfolding walkFrom
-  passed = let third : place + 1 + 1 + 1 ≡ place + 3 = omega arith in ap (λ (p : ℕ). walkFrom 0 (count + 1) p rest) third
+  passed : walkTableFrom 2 (count + 1) (place + 1) (low ∷ high ∷ rest) ≡ walkTableFrom 0 (count + 1) (place + 3) rest
+  unfolding walkTableFrom
+  passed = let third : place + 1 + 1 + 1 ≡ place + 3 = omega arith in ap (λ (p : ℕ). walkTableFrom 0 (count + 1) p rest) third
 
-  whole : (k : Kind) → place ≢ longestTable → kindOf byte ≡ k → goOn (laterStep k count place (low ∷ high ∷ rest)) (λ l. walkFrom l (count + 1) (place + 1) (low ∷ high ∷ rest)) ≡ Laid all
-      → (walkFrom 0 (count + 1) (place + 3) rest ≡ Laid all → Laying rest (place + 3) (count + 1) all) → Laying (byte ∷ low ∷ high ∷ rest) place count all
+  whole : (k : Kind) → place ≢ longestTable → kindOf byte ≡ k → goOn (laterStep k count place (low ∷ high ∷ rest)) (λ l. walkTableFrom l (count + 1) (place + 1) (low ∷ high ∷ rest)) ≡ Laid all
+      → (walkTableFrom 0 (count + 1) (place + 3) rest ≡ Laid all → Laying rest (place + 3) (count + 1) all) → Laying (byte ∷ low ∷ high ∷ rest) place count all
   whole Variables o q e next = faulty refl e
   whole Product o q e next = faulty refl e
   whole Factor o q e next = faulty refl e
@@ -95,8 +95,8 @@ module _ (byte low high : ℕ) (rest : List ℕ) (place count all : ℕ) where
       let h = ended (wordOf low high) count all (place + 1) (place + 1 + 2) rest (rw there at e) in
       subst (λ (l : List ℕ). Laying (byte ∷ low ∷ high ∷ l) place count all) (sym (h .1)) (end o q (h .0) (h .2))
 
-pub laying : (rest : List ℕ) (place count all : ℕ) → walkFrom 0 count place rest ≡ Laid all → Laying rest place count all
-unfolding walkFrom
+pub laying : (rest : List ℕ) (place count all : ℕ) → walkTableFrom 0 count place rest ≡ Laid all → Laying rest place count all
+unfolding walkTableFrom
 laying [] place count all e = faulty refl e
 laying (byte ∷ []) place count all e = cut (kindOf byte) count place all [] _ (omega arith) (inner byte count place all [] _ e .1)
 laying (byte ∷ low ∷ []) place count all e = cut (kindOf byte) count place all (low ∷ []) _ (omega arith) (inner byte count place all (low ∷ []) _ e .1)
@@ -105,8 +105,8 @@ laying (byte ∷ low ∷ high ∷ rest) place count all e =
     whole byte low high rest place count all (kindOf byte) (h .0) refl (h .1) (laying rest (place + 3) (count + 1) all)
 
 -- The first record, then the others.
-begun : (n : ℕ) (rest : List ℕ) → walkFrom 0 0 2 rest ≡ walkFrom 1 0 1 (n ∷ rest)
-unfolding walkFrom
+begun : (n : ℕ) (rest : List ℕ) → walkTableFrom 0 0 2 rest ≡ walkTableFrom 1 0 1 (n ∷ rest)
+unfolding walkTableFrom
 begun n rest = refl
 
 pub laid : (bytes : List ℕ) (all : ℕ) → walked bytes ≡ Laid all → LaidAs bytes all
@@ -114,7 +114,7 @@ unfolding walked
 laid [] all e = faulty refl e
 laid (byte ∷ rest) all e = go (kindOf byte) refl rest e
   where
-    go : (k : Kind) → kindOf byte ≡ k → (rest : List ℕ) → goOn (firstStep k rest) (λ l. walkFrom l 0 1 rest) ≡ Laid all → LaidAs (byte ∷ rest) all
+    go : (k : Kind) → kindOf byte ≡ k → (rest : List ℕ) → goOn (firstTableStep k rest) (λ l. walkTableFrom l 0 1 rest) ≡ Laid all → LaidAs (byte ∷ rest) all
     go Variables q [] e = faulty refl e
     go Variables q (n ∷ rest) e = table q (laying rest 2 0 all (begun n rest ∙ (rw (le-leb 1 (length (n ∷ rest)) (omega arith)) at e)))
     go Product q rest e = faulty refl e
@@ -130,8 +130,8 @@ later-point : (isOn : Bool) (count place : ℕ) (rest : List ℕ) → laterStep 
 later-point true count place rest = refl
 later-point false count place rest = refl
 
-pub walk-laying : {rest : List ℕ} {place count all : ℕ} → Laying rest place count all → walkFrom 0 count place rest ≡ Laid all
-unfolding walkFrom
+pub walk-laying : {rest : List ℕ} {place count all : ℕ} → Laying rest place count all → walkTableFrom 0 count place rest ≡ Laid all
+unfolding walkTableFrom
 walk-laying {place = place} {count = count} (end o q w a) = rw (ne-eqb place longestTable o, q, eq-eqb _ count w) (ap Laid a)
 walk-laying {place = place} {count = count} {all = all} (point {byte} {low} {high} {rest} isOn o q r) =
     rw (ne-eqb place longestTable o, q, later-point isOn count place (low ∷ high ∷ rest), there byte low high rest place count all)

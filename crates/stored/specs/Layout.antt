@@ -27,14 +27,14 @@ abbrev pub longestTable : ℕ
 longestTable = tableLength maxPoints
 
 -- The first record gives n.
-abbrev pub firstStep : Kind → List ℕ → Step
-firstStep Variables rest = bodyStep (bodyOf Variables) 0 rest
-firstStep Product rest = Stop (WrongKind 0)
-firstStep Factor rest = Stop (WrongKind 0)
-firstStep End rest = Stop (WrongKind 0)
-firstStep On rest = Stop (WrongKind 0)
-firstStep Free rest = Stop (WrongKind 0)
-firstStep Unknown rest = Stop (WrongKind 0)
+abbrev pub firstTableStep : Kind → List ℕ → Step
+firstTableStep Variables rest = bodyStep (bodyOf Variables) 0 rest
+firstTableStep Product rest = Stop (WrongKind 0)
+firstTableStep Factor rest = Stop (WrongKind 0)
+firstTableStep End rest = Stop (WrongKind 0)
+firstTableStep On rest = Stop (WrongKind 0)
+firstTableStep Free rest = Stop (WrongKind 0)
+firstTableStep Unknown rest = Stop (WrongKind 0)
 
 -- A later record is an on point, a free point or the end; any other kind stands wrong.
 abbrev pub laterStep : Kind → ℕ → ℕ → List ℕ → Step
@@ -47,16 +47,16 @@ laterStep Factor count place rest = Stop (WrongKind place)
 laterStep Unknown count place rest = Stop (WrongKind place)
 
 -- A byte at the place after the longest table is a byte after the end, whatever it is (document 02, No. 3).
-abbrev pub recordStep : ℕ → ℕ → ℕ → List ℕ → Step
-recordStep byte count place rest = cond (eqb place longestTable) (Stop (After place)) (laterStep (kindOf byte) count place rest)
+abbrev pub tableStep : ℕ → ℕ → ℕ → List ℕ → Step
+tableStep byte count place rest = cond (eqb place longestTable) (Stop (After place)) (laterStep (kindOf byte) count place rest)
 
 -- The walk over the bytes from a place on, with the number of records behind it, once the given number of bytes of a body is passed.
-unfoldable pub walkFrom : ℕ → ℕ → ℕ → List ℕ → Walk
-walkFrom skip count place [] = Missing place
-walkFrom zero count place (byte ∷ rest) = goOn (recordStep byte count place rest) (λ l. walkFrom l (count + 1) (place + 1) rest)
-walkFrom (suc skip) count place (byte ∷ rest) = walkFrom skip count (place + 1) rest
+unfoldable pub walkTableFrom : ℕ → ℕ → ℕ → List ℕ → Walk
+walkTableFrom skip count place [] = Missing place
+walkTableFrom zero count place (byte ∷ rest) = goOn (tableStep byte count place rest) (λ l. walkTableFrom l (count + 1) (place + 1) rest)
+walkTableFrom (suc skip) count place (byte ∷ rest) = walkTableFrom skip count (place + 1) rest
 
 -- The walk over a whole input: the first record, the records of points, the end.
 unfoldable pub walked : List ℕ → Walk
 walked [] = Missing 0
-walked (byte ∷ rest) = goOn (firstStep (kindOf byte) rest) (λ l. walkFrom l 0 1 rest)
+walked (byte ∷ rest) = goOn (firstTableStep (kindOf byte) rest) (λ l. walkTableFrom l 0 1 rest)

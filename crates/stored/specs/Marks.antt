@@ -48,9 +48,9 @@ abbrev pub marks : List ℕ → List Mark
 marks bytes = recordMarks (drop firstPoint bytes)
 
 -- The points of the marks that are on, or of those that are free.
-unfoldable pub pointsOf : Bool → List Mark → List ℕ
-pointsOf isOn [] = []
-pointsOf isOn (m ∷ rest) = cond (Bool·beq isOn (m .isOn)) (m .point ∷ pointsOf isOn rest) (pointsOf isOn rest)
+unfoldable pub markedPoints : Bool → List Mark → List ℕ
+markedPoints isOn [] = []
+markedPoints isOn (m ∷ rest) = cond (Bool·beq isOn (m .isOn)) (m .point ∷ markedPoints isOn rest) (markedPoints isOn rest)
 
 -- The points of all records as one list.
 abbrev pub storedPoints : List ℕ → List ℕ
@@ -58,7 +58,7 @@ storedPoints bytes = map (λ m. m .point) (marks bytes)
 
 -- The list of on points, and the list of free points.
 abbrev pub storedOn : List ℕ → List ℕ
-storedOn bytes = pointsOf true (marks bytes)
+storedOn bytes = markedPoints true (marks bytes)
 
 abbrev pub storedFree : List ℕ → List ℕ
-storedFree bytes = pointsOf false (marks bytes)
+storedFree bytes = markedPoints false (marks bytes)

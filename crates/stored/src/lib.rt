@@ -8,10 +8,10 @@ ghost use Rattle.records.specs.Kinds.{kindOf};
 ghost use Rattle.gf2.specs.Limits.{maxVariables};
 ghost use Rattle.table.specs.Decision.{front};
 ghost use Rattle.table.specs.Table.{outside, unordered};
-ghost use Rattle.stored.specs.Marks.{noMark, marks, pointsOf, storedPoints};
+ghost use Rattle.stored.specs.Marks.{noMark, marks, markedPoints, storedPoints};
 ghost use Rattle.stored.specs.Reading.{readFault, readAnswer, onAfter, freeAfter};
 ghost use Rattle.stored.specs.Stored.{LaidOut, storedFault};
-ghost use Rattle.stored.specs.Layout.{firstStep, recordStep, walkFrom, walked};
+ghost use Rattle.stored.specs.Layout.{firstTableStep, tableStep, walkTableFrom, walked};
 use records::Kind;
 use records::Step;
 use records::WORD_RECORD_LENGTH;
@@ -37,7 +37,7 @@ pub struct TableRead {
 // The first record of a table.
 fn first_step(bytes: &[u8]) -> Step
     requires { ⌜ 0 < length (now bytes) ⌝ }
-    ensures { λ r. ⌜ r ≡ firstStep (kindOf (getD (now (bytes .entry)) 0 0)) (drop 1 (now (bytes .entry))) ⌝ }
+    ensures { λ r. ⌜ r ≡ firstTableStep (kindOf (getD (now (bytes .entry)) 0 0)) (drop 1 (now (bytes .entry))) ⌝ }
 {
     let kind = records::kind_of(bytes[0]);
     match kind {
@@ -49,7 +49,7 @@ fn first_step(bytes: &[u8]) -> Step
 // A later record, at the place, with a number of records before it.
 fn record_step(bytes: &[u8], count: usize, place: usize) -> Step
     requires { ⌜ place < length (now bytes) ⌝ }
-    ensures { λ r. ⌜ r ≡ recordStep (getD (now (bytes .entry)) place 0) count place (drop (place + 1) (now (bytes .entry))) ⌝ }
+    ensures { λ r. ⌜ r ≡ tableStep (getD (now (bytes .entry)) place 0) count place (drop (place + 1) (now (bytes .entry))) ⌝ }
 {
     if place == LONGEST_TABLE {
         return Step::Stop(Walk::After(place));
@@ -66,7 +66,7 @@ fn record_step(bytes: &[u8], count: usize, place: usize) -> Step
 // The walk over the records after the first, from the place on.
 fn walk_records(bytes: &[u8], start: usize) -> Walk
     requires { ⌜ start ≤ length (now bytes) ⌝ }
-    ensures { λ r. ⌜ r ≡ walkFrom 0 0 start (drop start (now (bytes .entry))) ⌝ }
+    ensures { λ r. ⌜ r ≡ walkTableFrom 0 0 start (drop start (now (bytes .entry))) ⌝ }
 {
     let mut count = 0;
     let mut place = start;
@@ -183,7 +183,7 @@ fn is_marked(bytes: &[u8], i: usize, on: bool) -> bool
 // The number of on points, or of free points.
 fn count_points(bytes: &[u8], on: bool) -> usize
     requires { ⌜ LaidOut (now bytes) ⌝ }
-    ensures { λ r. ⌜ r ≡ length (pointsOf on (marks (now (bytes .entry)))) ⌝ }
+    ensures { λ r. ⌜ r ≡ length (markedPoints on (marks (now (bytes .entry)))) ⌝ }
 {
     let count = record_count(bytes);
     let mut found = 0;
@@ -200,9 +200,9 @@ fn count_points(bytes: &[u8], on: bool) -> usize
 // The on points, or the free points, written to the front of the room; how many they are.
 fn write_points(bytes: &[u8], on: bool, room: &mut [u16]) -> usize
     requires { ⌜ LaidOut (now bytes) ⌝ }
-    requires { ⌜ length (pointsOf on (marks (now bytes))) ≤ length (now room) ⌝ }
-    ensures { λ r. ⌜ r ≡ length (pointsOf on (marks (now (bytes .entry)))) ⌝ }
-    ensures { λ r. ⌜ now (room .exit) ≡ front (pointsOf on (marks (now (bytes .entry)))) (now (room .entry)) ⌝ }
+    requires { ⌜ length (markedPoints on (marks (now bytes))) ≤ length (now room) ⌝ }
+    ensures { λ r. ⌜ r ≡ length (markedPoints on (marks (now (bytes .entry)))) ⌝ }
+    ensures { λ r. ⌜ now (room .exit) ≡ front (markedPoints on (marks (now (bytes .entry)))) (now (room .entry)) ⌝ }
 {
     let count = record_count(bytes);
     let mut at = 0;

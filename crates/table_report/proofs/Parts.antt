@@ -10,7 +10,7 @@ use borrow.Author.Tests.{lt-ltb, le-ltb}
 use Rattle.basis.specs.declared.Basis.{Basis}
 use Rattle.basis.specs.declared.ShortList.{ShortList}
 use Rattle.basis.specs.Short.{listed, short}
-use Rattle.basis.specs.Reduced.{vectorsOf, Spans}
+use Rattle.basis.specs.Reduced.{vectorsOf, BasisWithin}
 use Rattle.basis.proofs.Values.{basis-len, short-listed, short-part, short-fits}
 use Rattle.table.specs.Refusal.{sizeFault}
 use Rattle.table.specs.Flags.{maxPoints}
@@ -97,7 +97,7 @@ table-parts n on free = refl
 
 -- ---- a basis of n variables
 
-module _ {n : ℕ} {b : Basis} (s : Spans n b) where
+module _ {n : ℕ} {b : Basis} (s : BasisWithin n b) where
   spans-len : b .len ≡ length (vectorsOf b)
   spans-len = basis-len b (s .basis)
 

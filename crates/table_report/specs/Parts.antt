@@ -6,7 +6,7 @@ use mathlib.Core.List.{List, _++_, map}
 use Prim.Native.Nat.{ℕ, _-_}
 use lib.Dec.{ltb}
 use Rattle.basis.specs.declared.Basis.{Basis}
-use Rattle.basis.specs.Reduced.{Spans}
+use Rattle.basis.specs.Reduced.{BasisWithin}
 use Rattle.table.specs.Refusal.{sizeFault}
 use Rattle.table.specs.Table.{outside, unordered}
 use Rattle.cubes.specs.Records.{maxListed}
@@ -32,6 +32,6 @@ functionText n bs points = spaceText n bs points ++ formLines n bs points
 
 -- The points may be those of a restriction by a basis of n variables: they have n - k variables and rise.
 pub record Restricts (n : ℕ) (b : Basis) (points : List ℕ) : Type 0 where
-  pub spans : Spans n b
+  pub spans : BasisWithin n b
   pub inside : outside (n - b .len) points ≡ false
   pub rising : unordered points ≡ false

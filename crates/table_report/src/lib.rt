@@ -10,7 +10,7 @@ ghost use Prim.Native.Nat.{_≤_};
 ghost use Rattle.gf2.specs.Limits.{maxVariables};
 ghost use Rattle.gf2.specs.Basis.{canonicalPlaces, variablesAt};
 ghost use Rattle.basis.specs.Short.{listed, short};
-ghost use Rattle.basis.specs.Reduced.{vectorsOf, Spans};
+ghost use Rattle.basis.specs.Reduced.{vectorsOf, BasisWithin};
 ghost use Rattle.table.specs.Table.{Accepted};
 ghost use Rattle.space.specs.Restriction.{equations, restriction};
 ghost use Rattle.space.specs.Witness.{flagged};
@@ -108,7 +108,7 @@ fn form_lines(room: &mut [u8], at: usize, n: usize, basis: Basis, points: &[u16]
 
 // The line of the canonical variables.
 fn canonical_line(room: &mut [u8], at: usize, n: usize, basis: Basis) -> usize
-    requires { ⌜ Spans n basis ⌝ }
+    requires { ⌜ BasisWithin n basis ⌝ }
     requires { ⌜ HasRoom (now room) at (numbersLine canonicalWord (variablesAt n (canonicalPlaces n (vectorsOf basis)))) ⌝ }
     ensures { λ r. ⌜ Wrote (now (room .entry)) at (numbersLine canonicalWord (variablesAt n (canonicalPlaces n (vectorsOf basis)))) (now (room .exit)) r ⌝ }
 {
@@ -120,7 +120,7 @@ fn canonical_line(room: &mut [u8], at: usize, n: usize, basis: Basis) -> usize
 
 // The lines of the reduction equations.
 fn equations_text(room: &mut [u8], at: usize, n: usize, basis: Basis) -> usize
-    requires { ⌜ Spans n basis ⌝ }
+    requires { ⌜ BasisWithin n basis ⌝ }
     requires { ⌜ HasRoom (now room) at (equationLines n 1 (equations n (vectorsOf basis))) ⌝ }
     ensures { λ r. ⌜ Wrote (now (room .entry)) at (equationLines n 1 (equations n (vectorsOf basis))) (now (room .exit)) r ⌝ }
 {
@@ -132,7 +132,7 @@ fn equations_text(room: &mut [u8], at: usize, n: usize, basis: Basis) -> usize
 
 // Degree, canonical variables, reduction equations, restriction.
 fn space_text(room: &mut [u8], at: usize, n: usize, basis: Basis, points: &[u16]) -> usize
-    requires { ⌜ Spans n basis ⌝ }
+    requires { ⌜ BasisWithin n basis ⌝ }
     requires { ⌜ HasRoom (now room) at (spaceText n (vectorsOf basis) (now points)) ⌝ }
     ensures { λ r. ⌜ Wrote (now (room .entry)) at (spaceText n (vectorsOf basis) (now (points .entry))) (now (room .exit)) r ⌝ }
 {
@@ -162,7 +162,7 @@ fn flags_text(
     flags: &[bool; MAX_POINTS],
     basis: Basis,
 ) -> usize
-    requires { ⌜ Spans n basis ⌝ }
+    requires { ⌜ BasisWithin n basis ⌝ }
     requires { ⌜ HasRoom (now room) at (functionText n (vectorsOf basis) (restriction n (vectorsOf basis) (flagged (now flags)))) ⌝ }
     ensures { λ r. ⌜ Wrote (now (room .entry)) at (functionText n (vectorsOf basis) (restriction n (vectorsOf basis) (flagged (now (flags .entry))))) (now (room .exit)) r ⌝ }
 {

@@ -16,7 +16,7 @@ use Rattle.cubes.specs.Candidates.{points, candidatesAt, candidatesOf, candidat
 use Rattle.bases.specs.Entries.{entries}
 use Rattle.bases.specs.Bases.{entryCount, start, stop, entriesOf, takesPoint}
 use Rattle.bases.proofs.Table.{entries-at}
-use Rattle.walk.specs.declared.Found.{Found}
+use Rattle.walk.specs.declared.TakenEntry.{TakenEntry}
 use Rattle.walk.specs.declared.Tally.{Tally}
 use Rattle.masks.specs.Points.{primeBy}
 use Rattle.bases.specs.Entry.{candidateAt, EntryAt}
@@ -83,7 +83,7 @@ unfolding flatMap
 ahead-last n d p h =
     ahead-done n d p ∙ ap (λ l. flatMap (candidatesAt n d) l ++ lower n d) (drop-of-length-le (points n) {i = suc p} (omega (arith, points-length (2 ^ n))))
 
-ahead-same : (n d p i skip : ℕ) (r : Found) → FirstTaken n d p i skip r → drop skip (ahead n d p i) ≡ drop (r .skip) (ahead n d p (r .at))
+ahead-same : (n d p i skip : ℕ) (r : TakenEntry) → FirstTaken n d p i skip r → drop skip (ahead n d p i) ≡ drop (r .skip) (ahead n d p (r .at))
 unfolding ahead
 ahead-same n d p i skip r f = f .same (flatMap (candidatesAt n d) (drop (suc p) (points n)) ++ lower n d)
 
@@ -130,7 +130,7 @@ module _ {n on free long : ℕ} {goal : State} {skip d p i : ℕ} {s : State} (t
   pub small : p < 64
   small = omega (arith, t .point, pow-mono (t .few))
 
-  module _ {r : Found} (f : FirstTaken n d p i skip r) where
+  module _ {r : TakenEntry} (f : FirstTaken n d p i skip r) where
     here : walk (primeBy n on free) (drop (r .skip) (ahead n d p (r .at))) s ≡ goal
     here = ap (λ l. walk (primeBy n on free) l s) (sym (ahead-same n d p i skip r f)) ∙ t .same
 

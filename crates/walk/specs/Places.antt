@@ -10,7 +10,7 @@ use Rattle.cubes.specs.Cubes.{Candidate}
 use Rattle.bases.specs.Entries.{entries}
 use Rattle.bases.specs.Bases.{stop, takesPoint}
 use Rattle.bases.specs.Entry.{candidateAt}
-use Rattle.walk.specs.declared.Found.{Found}
+use Rattle.walk.specs.declared.TakenEntry.{TakenEntry}
 
 -- The entries of d vectors from place i on that are taken with the point p.
 abbrev pub takenFrom : ℕ → ℕ → ℕ → ℕ → List ℕ
@@ -22,7 +22,7 @@ placed n d p i rest = map (candidateAt d p) (takenFrom n d p i) ++ rest
 
 -- The place found is the first from i on whose entry is taken with p, after so many such entries that are skipped, or the end of the entries
 -- of d vectors: whatever stands behind those entries, what is left without the first few is the same.
-pub record FirstTaken (n d p i skip : ℕ) (r : Found) : Type 0 where
+pub record FirstTaken (n d p i skip : ℕ) (r : TakenEntry) : Type 0 where
   pub low : i ≤ r .at
   pub high : r .at ≤ stop d
   pub same : (rest : List Candidate) → drop skip (placed n d p i rest) ≡ drop (r .skip) (placed n d p (r .at) rest)

@@ -19,13 +19,20 @@ ghost use Rattle.walk.specs.Walk.{starting, passing, writing, stopping, 
 // ---- the entries of the table of bases
 
 // A place in the table of bases, and how many candidates are still to be skipped from there on.
-pub struct Found {
+pub struct TakenEntry {
     pub at: usize,
     pub skip: u64,
 }
 
 // The first place from i on whose entry is taken with p, after so many such entries that are skipped, or the end of the entries of d vectors.
-fn first_taken(table: &[u64; ENTRY_COUNT], n: usize, d: usize, p: u64, i: usize, skip: u64) -> Found
+fn first_taken(
+    table: &[u64; ENTRY_COUNT],
+    n: usize,
+    d: usize,
+    p: u64,
+    i: usize,
+    skip: u64,
+) -> TakenEntry
     requires { ⌜ now table ≡ entries ⌝ }
     requires { ⌜ n ≤ maxListed ⌝ }
     requires { ⌜ d ≤ maxListed ⌝ }
@@ -41,12 +48,12 @@ fn first_taken(table: &[u64; ENTRY_COUNT], n: usize, d: usize, p: u64, i: usize,
             continue;
         }
         if left == 0 {
-            return Found { at, skip: 0 };
+            return TakenEntry { at, skip: 0 };
         }
         left -= 1;
         at += 1;
     }
-    Found { at, skip: left }
+    TakenEntry { at, skip: left }
 }
 
 // ---- one candidate

@@ -19,7 +19,7 @@ ghost use lib.ListN.{length};
 ghost use lib.Seq.{sets};
 ghost use Rattle.gf2.specs.Limits.{maxVariables};
 ghost use Rattle.basis.specs.Short.{listed, short};
-ghost use Rattle.basis.specs.Reduced.{vectorsOf, Spans};
+ghost use Rattle.basis.specs.Reduced.{vectorsOf, BasisWithin};
 ghost use Rattle.table.specs.Decision.{front};
 ghost use Rattle.space.specs.Restriction.{restriction};
 ghost use Rattle.space.specs.Witness.{flagged};
@@ -131,7 +131,7 @@ fn put_form(n: usize, equations: ShortList, m: usize, choice: Choice, room: &mut
 
 // The primes chosen for the restriction, by a basis, of the function that the flags give.
 pub fn choose_restriction(flags: &[bool; MAX_POINTS], basis: Basis, n: usize) -> Choice
-    requires { ⌜ Spans n basis ⌝ }
+    requires { ⌜ BasisWithin n basis ⌝ }
     requires { ⌜ n - basis .len ≤ maxListed ⌝ }
     ensures { λ r. ⌜ Chose (n - basis .len) (restriction n (vectorsOf basis) (flagged (now (flags .entry)))) r ⌝ }
 {

@@ -16,12 +16,12 @@ use Rattle.table.specs.Table.{badCount}
 use Rattle.records.specs.declared.Walk.the-variants.{WrongKind}
 use Rattle.records.specs.declared.Step.the-variants.{Stop}
 use Rattle.records.proofs.Whole.{body-length}
-use Rattle.form.specs.Walk.{firstStep}
+use Rattle.form.specs.Walk.{firstFormStep}
 use Rattle.form.proofs.first_step.Statement.{statement}
 use Rattle.form.proofs.first_step.Tie as tie
 
 -- Every kind but the first of the enum is wrong here.
-wrong : (k : Kind) (rest : List ℕ) → OneOf (1 ∷ 2 ∷ 3 ∷ 4 ∷ 5 ∷ 6 ∷ []) (tagOf the-type k) → Stop (WrongKind 0) ≡ firstStep k rest
+wrong : (k : Kind) (rest : List ℕ) → OneOf (1 ∷ 2 ∷ 3 ∷ 4 ∷ 5 ∷ 6 ∷ []) (tagOf the-type k) → Stop (WrongKind 0) ≡ firstFormStep k rest
 wrong Variables rest h = absurd (miss (1 ∷ 2 ∷ 3 ∷ 4 ∷ 5 ∷ 6 ∷ []) 0 tt h)
 wrong Product rest h = refl
 wrong Factor rest h = refl

@@ -10,8 +10,8 @@ use Rattle.gf2.specs.Finite.{select}
 use Rattle.table.specs.Decision.{front}
 use Rattle.form.specs.Form.{formAt}
 use Rattle.form.specs.Decoding.{formVariables, decodeForm}
-use Rattle.form.specs.Reading.{IsForm, formFault, pointsOf}
-use Rattle.form.proofs.Answering.{no-refusal, form-begins, points-below, points-ways}
+use Rattle.form.specs.Reading.{IsForm, formFault, pointsRead}
+use Rattle.form.proofs.Answering.{accepted-form, form-begins, points-below, points-ways}
 use Rattle.form.proofs.form_points.Statement.{statement}
 use Rattle.form.proofs.form_points.Tie as tie
 
@@ -28,7 +28,7 @@ sound : (c : tie.Else1) → formFault (c .before .before .before .before .args .
 sound c = sym (c .before .form-fault .ensures) ∙ c .if1 .left
 
 accepted : (c : tie.Else1) → IsForm (c .before .before .before .before .args .bytes .now)
-accepted c = no-refusal (c .before .before .before .before .args .bytes .now) (sound c)
+accepted c = accepted-form (c .before .before .before .before .args .bytes .now) (sound c)
 
 shared-slice-read-n : tie.Need-shared-slice-read-n
 shared-slice-read-n c = form-begins (c .before .before .before .before .before .args .bytes .now) (accepted (c .before)) .0
@@ -44,10 +44,10 @@ count-points-requires c κs = accepted (c .before .before)
 
 -- The points below the bound that the code takes are all of them, and the count is theirs.
 points : (c : tie.After-point-count)
-    → select (formAt (decodeForm (c .before .before .before .before .before .before .args .bytes .now))) (c .point-count .result) ≡ pointsOf (c .before .before .before .before .before .before .args .bytes .now)
+    → select (formAt (decodeForm (c .before .before .before .before .before .before .args .bytes .now))) (c .point-count .result) ≡ pointsRead (c .before .before .before .before .before .before .args .bytes .now)
 points c = points-below (c .before .before .before .before .before .before .args .bytes .now) (c .point-count .ensures)
 
-counted : (c : tie.After-count-points) → c .count-points .result ≡ length (pointsOf (c .before .before .before .before .before .before .before .args .bytes .now))
+counted : (c : tie.After-count-points) → c .count-points .result ≡ length (pointsRead (c .before .before .before .before .before .before .before .args .bytes .now))
 counted c = c .count-points .ensures ∙ ap length (points (c .before))
 
 returns-2 : tie.Need-returns-2

@@ -9,7 +9,7 @@ use lib.ListN.{length}
 use Rattle.table.specs.Decision.{front}
 use Rattle.form.specs.Reading.{formFault, rewritten}
 use Rattle.form.proofs.Encodings.{rewritten-same}
-use Rattle.form.proofs.Answering.{no-refusal, slice-bytes, rewrite-ways}
+use Rattle.form.proofs.Answering.{accepted-form, slice-bytes, rewrite-ways}
 use Rattle.form.proofs.form_rewrite.Statement.{statement}
 use Rattle.form.proofs.form_rewrite.Tie as tie
 
@@ -28,7 +28,7 @@ sound c = sym (c .before .form-fault .ensures) ∙ c .if1 .left
 same : (c : tie.Else1) → rewritten (c .before .before .before .before .args .bytes .now) ≡ c .before .before .before .before .args .bytes .now
 same c =
     let s = c .before .before .before .before .args .bytes .now in
-    rewritten-same s (slice-bytes s (λ i. omega (arith, c .before .before .before .shared-slice-known .given i))) (no-refusal s (sound c))
+    rewritten-same s (slice-bytes s (λ i. omega (arith, c .before .before .before .shared-slice-known .given i))) (accepted-form s (sound c))
 
 returns-2 : tie.Need-returns-2
 returns-2 c =

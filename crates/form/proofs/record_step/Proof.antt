@@ -11,13 +11,13 @@ use Rattle.records.specs.declared.Kind.the-variants.{Variables, Product, Factor
 use Rattle.records.proofs.Kind.{the-type}
 use Rattle.records.specs.declared.Walk.the-variants.{WrongKind}
 use Rattle.records.specs.declared.Step.the-variants.{Stop}
-use Rattle.form.specs.Walk.{Behind, recordStep}
+use Rattle.form.specs.Walk.{Behind, formStep}
 use Rattle.form.specs.Counting.{behindBy}
 use Rattle.form.proofs.record_step.Statement.{statement}
 use Rattle.form.proofs.record_step.Tie as tie
 
 -- Every kind of the enum but a product, a factor and the end is wrong here.
-wrong : (n : ℕ) (b : Behind) (k : Kind) (place : ℕ) (rest : List ℕ) → OneOf (0 ∷ 4 ∷ 5 ∷ 6 ∷ []) (tagOf the-type k) → Stop (WrongKind place) ≡ recordStep n b k place rest
+wrong : (n : ℕ) (b : Behind) (k : Kind) (place : ℕ) (rest : List ℕ) → OneOf (0 ∷ 4 ∷ 5 ∷ 6 ∷ []) (tagOf the-type k) → Stop (WrongKind place) ≡ formStep n b k place rest
 wrong n b Variables place rest h = refl
 wrong n b Product place rest h = absurd (miss (0 ∷ 4 ∷ 5 ∷ 6 ∷ []) 1 tt h)
 wrong n b Factor place rest h = absurd (miss (0 ∷ 4 ∷ 5 ∷ 6 ∷ []) 2 tt h)

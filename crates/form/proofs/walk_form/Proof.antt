@@ -10,7 +10,7 @@ use Rattle.records.specs.Kinds.{kindOf}
 use Rattle.table.specs.Table.{badCount}
 use Rattle.table.proofs.Table.{good-count}
 use Rattle.records.specs.declared.Step.the-variants.{Whole}
-use Rattle.form.specs.Walk.{firstStep}
+use Rattle.form.specs.Walk.{firstFormStep}
 use Rattle.form.proofs.Walking.{walk-none, first-whole, first-ends, first-goes}
 use Rattle.form.proofs.walk_form.Statement.{statement}
 use Rattle.form.proofs.walk_form.Tie as tie
@@ -30,7 +30,7 @@ enum-known-length c = search needs
 -- The first record is whole: the step that says so, that its body is there, and what n is.
 module _ (c : tie.After-known-told2) where
   step :
-      firstStep
+      firstFormStep
       (kindOf (getD (c .before .before .before .before .before .before .args .bytes .now) 0 0))
       (drop 1 (c .before .before .before .before .before .before .args .bytes .now))
       ≡ Whole (c .before .length .given .0 .0)

@@ -7,7 +7,7 @@ use borrow.Author.Needs.{needs}
 use lib.ListN.{length, drop, getD, drop-of-length-le}
 use Rattle.records.specs.Kinds.{kindOf}
 use Rattle.records.specs.declared.Step.the-variants.{Whole}
-use Rattle.form.specs.Walk.{behind, recordStep, walkFrom}
+use Rattle.form.specs.Walk.{behind, formStep, walkFormFrom}
 use Rattle.form.specs.Counting.{Counted, behindBy, factorsBefore}
 use Rattle.form.proofs.Walking.{Carried, carried, none-fit, walk-ends, walk-goes}
 use Rattle.form.proofs.walk_records.Statement.{statement}
@@ -15,7 +15,7 @@ use Rattle.form.proofs.walk_records.Tie as tie
 
 abbrev Inv-loop : tie.InvT-loop
 Inv-loop bytes n start counts₀ place₀ counts place =
-    Counted n bytes counts place × (walkFrom n 0 (behindBy bytes counts place) place (drop place bytes) ≡ walkFrom n 0 (behind 0 []) start (drop start bytes))
+    Counted n bytes counts place × (walkFormFrom n 0 (behindBy bytes counts place) place (drop place bytes) ≡ walkFormFrom n 0 (behind 0 []) start (drop start bytes))
 
 abbrev μ-loop : tie.MeasureT-loop
 μ-loop bytes n start counts₀ place₀ counts place = length bytes - place
@@ -50,7 +50,7 @@ counts-after-requires c κs = search needs
 -- A whole record at the loop's place: the step that says so, and the counts after it.
 module _ (c : tie.After-counts-after Inv-loop μ-loop) where
   step :
-      recordStep
+      formStep
       (c .before .before .before .before .before .before .before .before .args .n)
       (behindBy (c .before .before .before .before .before .before .before .before .args .bytes .now) (c .before .before .before .before .before .before .loop .counts) (c .before .before .before .before .before .before .loop .place))
       (kindOf (getD (c .before .before .before .before .before .before .before .before .args .bytes .now) (c .before .before .before .before .before .before .loop .place) 0))
@@ -93,7 +93,7 @@ loop-again c =
     )
 
 returns-2 : tie.Need-returns-2 Inv-loop μ-loop
-unfolding walkFrom
+unfolding walkFormFrom
 returns-2 c =
     let h = c .before .loop in
     let s = c .before .before .before .args .bytes .now in

@@ -8,7 +8,7 @@ use borrow.Author.Needs.{needs}
 use lib.Seq.{length-take-le}
 use Rattle.pla_text.specs.Text.{symbolsOf, contentOf, wordsOf}
 use Rattle.pla_lines.specs.Reading.{readContent, readStatement}
-use Rattle.pla_lines.specs.Bounds.{Agrees}
+use Rattle.pla_lines.specs.Bounds.{GatheredBy}
 use Rattle.pla_lines.proofs.Going.{content-cut}
 use Rattle.pla_text.specs.Statements.{statementOf}
 use denote.Enum.Declared.{tagOf}
@@ -52,7 +52,7 @@ returns c =
     λ rows f.
     let cut = content-cut (args .line .now) (run-end .result) (run-end .ensures) .1 in
     let s : statementOf (wordsOf (contentOf (args .line .now))) ≡ Cube = rw (← cut) (sym (c .before .before .before .line-statement .ensures) ∙ c .before .enum-told .given .1) in
-    let told = subst (λ (content : List ℕ). Agrees (read-cube .result) (readStatement (args .output) (args .number) (args .head) rows (symbolsOf content) Cube)) cut
+    let told = subst (λ (content : List ℕ). GatheredBy (read-cube .result) (readStatement (args .output) (args .number) (args .head) rows (symbolsOf content) Cube)) cut
     (read-cube .ensures rows f) in
     rw s told
 

@@ -18,7 +18,7 @@ use Rattle.table.proofs.Table.{on-flags, free-flags}
 use Rattle.table.proofs.Flags.{length-flags, flags-at, marked-at}
 use Rattle.space.specs.Closure.{closed, linearSpace, degree}
 use Rattle.space.specs.Witness.{flagged}
-use Rattle.space.specs.Completion.{allOff, allOn, lowDegree, highDegree, completed, IsCompleted}
+use Rattle.space.specs.Completion.{allOff, allOn, k0, k1, completed, IsCompleted}
 use Rattle.space.proofs.Closure.{linear-span, linear-ext}
 use Rattle.space.proofs.Completion.{completed-off, completed-on}
 use Rattle.space.proofs.complete.Statement.{statement}
@@ -50,25 +50,25 @@ module _ {n : ℕ} {on free : List ℕ} (k : Accepted n on free) {off full : Lis
       let room : w < length off = rw (e, length-flags on) (lt-of-lt-of-le m (pow-mono (k .few))) in
       rw q (marked-at free off w room ∙ ap (λ (t : Bool). holds free w || t) (off-at w m) ∙ or-comm (holds free w) (holds on w))
 
-  low-is : low ≡ lowDegree n on
+  low-is : low ≡ k0 n on
   low-is = degree-of n a (flagged off) (allOff on) u off-at low l
 
-  high-is : high ≡ highDegree n on free
+  high-is : high ≡ k1 n on free
   high-is = degree-of n b (flagged full) (allOn on free) v on-at high h
 
   chosen : (flags : List Bool) (c : Basis) (f : ℕ → Bool) → completed n on free ≡ f → ((w : ℕ) → w < 2 ^ n → flagged flags w ≡ f w)
-      → SpaceOf n f c → IsCompleted n on free (record { flags = flags; basis = c; low = low; high = high })
+      → SpaceOf n f c → IsCompleted n on free (record { flags = flags; basis = c; k0 = low; k1 = high })
   chosen flags c f z t x = record {
     flags = λ w m. t w m ∙ sym (ap (λ (g : ℕ → Bool). g w) z);
     basis = subst (λ (g : ℕ → Bool). SpaceOf n g c) (sym z) x;
-    low = low-is;
-    high = high-is;
+    k0 = low-is;
+    k1 = high-is;
   }
 
-  larger : low < high → IsCompleted n on free (record { flags = full; basis = b; low = low; high = high })
+  larger : low < high → IsCompleted n on free (record { flags = full; basis = b; k0 = low; k1 = high })
   larger m = chosen full b (allOn on free) (completed-on n on free (rw (low-is, high-is) at m)) on-at (space-of n b (flagged full) (allOn on free) v on-at)
 
-  otherwise : high ≤ low → IsCompleted n on free (record { flags = off; basis = a; low = low; high = high })
+  otherwise : high ≤ low → IsCompleted n on free (record { flags = off; basis = a; k0 = low; k1 = high })
   otherwise m = chosen off a (allOff on) (completed-off n on free (rw (low-is, high-is) at m)) off-at (space-of n a (flagged off) (allOff on) u off-at)
 
 flags-of-requires : tie.Need-flags-of-requires

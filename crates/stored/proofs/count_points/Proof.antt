@@ -6,14 +6,14 @@ use native.Mathlib.Omega.{arith}
 use borrow.Author.Needs.{needs}
 use lib.ListN.{length, take}
 use lib.Seq.{take-all}
-use Rattle.stored.specs.Marks.{marks, pointsOf}
+use Rattle.stored.specs.Marks.{marks, markedPoints}
 use Rattle.stored.proofs.Laying.{table-length}
 use Rattle.stored.proofs.Points.{points-few, points-front, count-more, points-same}
 use Rattle.stored.proofs.count_points.Statement.{statement}
 use Rattle.stored.proofs.count_points.Tie as tie
 
 abbrev Inv-loop : tie.InvT-loop
-Inv-loop bytes on count found₀ i₀ found i = (i ≤ count) × (count ≡ length (marks bytes)) × (found ≡ length (pointsOf on (take i (marks bytes))))
+Inv-loop bytes on count found₀ i₀ found i = (i ≤ count) × (count ≡ length (marks bytes)) × (found ≡ length (markedPoints on (take i (marks bytes))))
 
 abbrev μ-loop : tie.MeasureT-loop
 μ-loop bytes on count found₀ i₀ found i = count - i
@@ -22,7 +22,7 @@ record-count-requires : tie.Need-record-count-requires Inv-loop μ-loop
 record-count-requires c κs = search needs
 
 loop-holds : tie.Need-loop-holds Inv-loop μ-loop
-unfolding pointsOf
+unfolding markedPoints
 loop-holds c = (search needs, c .record-count .ensures, refl)
 
 is-marked-requires : tie.Need-is-marked-requires Inv-loop μ-loop

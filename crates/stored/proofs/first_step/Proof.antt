@@ -11,12 +11,12 @@ use Rattle.records.specs.declared.Kind.the-variants.{Variables, Product, Factor
 use Rattle.records.proofs.Kind.{the-type}
 use Rattle.records.specs.declared.Walk.the-variants.{WrongKind}
 use Rattle.records.specs.declared.Step.the-variants.{Stop}
-use Rattle.stored.specs.Layout.{firstStep}
+use Rattle.stored.specs.Layout.{firstTableStep}
 use Rattle.stored.proofs.first_step.Statement.{statement}
 use Rattle.stored.proofs.first_step.Tie as tie
 
 -- Every kind but the first of the enum is wrong here.
-wrong : (k : Kind) (rest : List ℕ) → OneOf (1 ∷ 2 ∷ 3 ∷ 4 ∷ 5 ∷ 6 ∷ []) (tagOf the-type k) → Stop (WrongKind 0) ≡ firstStep k rest
+wrong : (k : Kind) (rest : List ℕ) → OneOf (1 ∷ 2 ∷ 3 ∷ 4 ∷ 5 ∷ 6 ∷ []) (tagOf the-type k) → Stop (WrongKind 0) ≡ firstTableStep k rest
 wrong Variables rest h = absurd (miss (1 ∷ 2 ∷ 3 ∷ 4 ∷ 5 ∷ 6 ∷ []) 0 tt h)
 wrong Product rest h = refl
 wrong Factor rest h = refl

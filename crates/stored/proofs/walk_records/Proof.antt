@@ -5,13 +5,13 @@ use native.Mathlib.Omega.{arith}
 use borrow.Author.Needs.{needs}
 use lib.ListN.{length, drop, getD, length-drop, drop-of-length-le}
 use Rattle.records.specs.declared.Step.the-variants.{Whole}
-use Rattle.stored.specs.Layout.{recordStep, walkFrom}
+use Rattle.stored.specs.Layout.{tableStep, walkTableFrom}
 use Rattle.stored.proofs.Walking.{record-whole, walk-ends, walk-goes}
 use Rattle.stored.proofs.walk_records.Statement.{statement}
 use Rattle.stored.proofs.walk_records.Tie as tie
 
 abbrev Inv-loop : tie.InvT-loop
-Inv-loop bytes start count₀ place₀ count place = (place ≤ length bytes) × (count ≤ place) × (walkFrom 0 count place (drop place bytes) ≡ walkFrom 0 0 start (drop start bytes))
+Inv-loop bytes start count₀ place₀ count place = (place ≤ length bytes) × (count ≤ place) × (walkTableFrom 0 count place (drop place bytes) ≡ walkTableFrom 0 0 start (drop start bytes))
 
 abbrev μ-loop : tie.MeasureT-loop
 μ-loop bytes start count₀ place₀ count place = length bytes - place
@@ -38,7 +38,7 @@ enum-known-length c = search needs
 -- A whole record at the loop's place: the step that says so, and that its body is there.
 module _ (c : tie.After-known-told2 Inv-loop μ-loop) where
   step :
-      recordStep
+      tableStep
       (getD (c .before .before .before .before .before .before .before .args .bytes .now) (c .before .before .before .before .before .loop .place) 0)
       (c .before .before .before .before .before .loop .count)
       (c .before .before .before .before .before .loop .place)
@@ -73,7 +73,7 @@ loop-again c =
     )
 
 returns-2 : tie.Need-returns-2 Inv-loop μ-loop
-unfolding walkFrom
+unfolding walkTableFrom
 returns-2 c =
     let h = c .before .loop in
     let s = c .before .before .before .args .bytes .now in

@@ -6,7 +6,7 @@ use borrow.Author.Needs.{needs}
 use lib.ListN.{length, drop, getD, length-drop}
 use Rattle.records.specs.Kinds.{kindOf}
 use Rattle.records.specs.declared.Step.the-variants.{Whole}
-use Rattle.stored.specs.Layout.{firstStep}
+use Rattle.stored.specs.Layout.{firstTableStep}
 use Rattle.stored.proofs.Walking.{walk-none, first-whole, first-ends, first-goes}
 use Rattle.stored.proofs.walk_table.Statement.{statement}
 use Rattle.stored.proofs.walk_table.Tie as tie
@@ -26,7 +26,7 @@ enum-known-length c = search needs
 -- The first record is whole: the step that says so, and that its body is there.
 module _ (c : tie.After-known-told2) where
   step :
-      firstStep
+      firstTableStep
       (kindOf (getD (c .before .before .before .before .before .before .args .bytes .now) 0 0))
       (drop 1 (c .before .before .before .before .before .before .args .bytes .now))
       ≡ Whole (c .before .length .given .0 .0)

@@ -9,7 +9,7 @@ use lib.ListN.{length, take, replicate}
 use lib.Pow.{pow-mono}
 use Rattle.gf2.specs.Basis.{leadMask}
 use Rattle.basis.specs.declared.Basis.{Basis}
-use Rattle.basis.specs.Reduced.{vectorsOf, Spans}
+use Rattle.basis.specs.Reduced.{vectorsOf, BasisWithin}
 use Rattle.table.specs.Decision.{front}
 use Rattle.table.specs.Table.{outside, unordered}
 use Rattle.table.proofs.Fill.{front-fits, front-part}
@@ -23,7 +23,7 @@ use Rattle.writing.proofs.choose_restriction.Statement.{statement}
 use Rattle.writing.proofs.choose_restriction.Tie as tie
 
 -- The points kept are those of the restriction, and fit the array; the part of it that is lent on is these.
-module _ (n : ℕ) (b : Basis) (k : Spans n b) (few : n - b .len ≤ maxListed) (f : ℕ → Bool) (leads : ℕ) (e : leads ≡ leadMask (vectorsOf b)) where
+module _ (n : ℕ) (b : Basis) (k : BasisWithin n b) (few : n - b .len ≤ maxListed) (f : ℕ → Bool) (leads : ℕ) (e : leads ≡ leadMask (vectorsOf b)) where
   enough : length (kept n leads f) ≤ maxChosen
   enough = omega (arith, ap length (points-kept k f leads e), points-few k f, pow-mono few)
 

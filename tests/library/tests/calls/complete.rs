@@ -18,8 +18,8 @@ pub fn numbers(found: &Completion) -> CompletionNumbers {
         refusal: found.refusal,
         point_count: found.count,
         degree: found.degree,
-        k0: found.low,
-        k1: found.high,
+        k0: found.k0,
+        k1: found.k1,
     }
 }
 

@@ -183,7 +183,7 @@ fn p8_equal_degrees() {
     let mut room = [9; 3];
     let found = lent_calls::complete(2, &[0], &[1, 2], &mut room);
     assert_eq!((found.refusal, found.degree, found.count), (0, 0, 1));
-    assert_eq!((found.low, found.high), (0, 0));
+    assert_eq!((found.k0, found.k1), (0, 0));
     assert_eq!(room, [0, 9, 9]);
     let form = [0x4E, 2, 0x50, 0x58, 0, 2, 0, 0x58, 0, 1, 0, 0x45, 1, 0];
     assert_eq!(form_true_at(2, &[0], &[1, 2], &[0]), form);

@@ -13,7 +13,7 @@ fn degree((n, on, _): &Table) -> usize {
     let analysis = lent_calls::analyse(*n, on, &[], &mut room);
     let refusals = (space.refusal, completion.refusal, analysis.refusal);
     assert_eq!(refusals, (0, 0, 0));
-    let degrees = [completion.low, completion.high, analysis.degree];
+    let degrees = [completion.k0, completion.k1, analysis.degree];
     assert_eq!(degrees, [space.degree; 3]);
     space.degree
 }

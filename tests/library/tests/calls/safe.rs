@@ -65,8 +65,8 @@ fn spaces((n, on, free): &Table, length: usize) {
             refusal: 0,
             count: found.points.len(),
             degree: found.degree,
-            low: found.low,
-            high: found.high,
+            k0: found.k0,
+            k1: found.k1,
         }
     };
     let safe = glospruma::complete(*n, on, free, other.part_mut());

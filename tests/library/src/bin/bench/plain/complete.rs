@@ -11,8 +11,8 @@ pub struct Completed {
     pub flags: Flags,
     pub count: usize,
     pub basis: Basis,
-    pub low: usize,
-    pub high: usize,
+    pub k0: usize,
+    pub k1: usize,
 }
 
 /// Completes a table, or refuses it with 1, 2, 3 or 4.
@@ -26,8 +26,8 @@ pub fn completed(n: usize, on: &[u16], free: &[u16]) -> Result<Completed, u8> {
         flags: if take_all { on_flags } else { off_flags },
         count: on.len() + if take_all { free.len() } else { 0 },
         basis: if take_all { all } else { off },
-        low: off.len,
-        high: all.len,
+        k0: off.len,
+        k1: all.len,
     })
 }
 
@@ -39,8 +39,8 @@ fn try_complete(n: usize, on: &[u16], free: &[u16], room: &mut [u16]) -> Result<
         refusal: 0,
         count: completed.count,
         degree: completed.basis.len,
-        low: completed.low,
-        high: completed.high,
+        k0: completed.k0,
+        k1: completed.k1,
     })
 }
 
