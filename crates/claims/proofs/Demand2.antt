@@ -1,52 +1,101 @@
--- Demand 2 holds of what the public calls report of every accepted table, with rooms that are long enough. Read next: Demand3.
-use mathlib.Core.Path.{_≡_, sym, ap, ap₂, _∙_, subst}
+-- Demand 2 holds of what the public calls report of every table, with any rooms. Read next: Demand3.
+use mathlib.Core.Path.{_≡_, refl, sym, ap, ap₂, _∙_, subst}
 use mathlib.Core.Bool.{Bool, true, false}
 use mathlib.Core.Logic.{_↔_}
-use mathlib.Core.List.{List}
-use Prim.Native.Nat.{ℕ, _+_, _-_, _^_, _≤_, _<_}
-use lib.ListN.{length}
+use mathlib.Core.List.{List, []}
+use Prim.Native.Nat.{ℕ, _+_, _-_, _^_, _≤_, _<_, max}
+use native.Mathlib.Omega.{arith}
+use lib.ListN.{length, length-map}
 use lib.Bits.{xor-lt}
-use borrow.Author.Tests.{le-ltb}
-use Rattle.gf2.specs.Bits.{_⊕_}
-use Rattle.gf2.specs.Finite.{Mem, holds, Rising, In}
+use lib.Dec.{ltb}
+use borrow.Author.Tests.{lt-ltb, le-ltb}
+use Rattle.gf2.specs.Bits.{_⊕_, indexOf}
+use Rattle.gf2.specs.Finite.{Mem, holds, select, Rising, In}
 use Rattle.gf2.specs.Span.{Span}
-use Rattle.gf2.specs.Basis.{Reduced}
+use Rattle.gf2.specs.Basis.{Reduced, canonicalPlaces, variablesAt}
 use Rattle.gf2.proofs.Logic.{clash}
 use Rattle.gf2.proofs.Finite.{holds-mem}
+use Rattle.gf2.proofs.Variables.{canonical-length}
+use Rattle.basis.specs.Short.{listed}
+use Rattle.basis.specs.Reduced.{vectorsOf}
+use Rattle.basis.proofs.Values.{vectors-back, listed-back}
+use Rattle.table.specs.Refusal.{sizeFault}
 use Rattle.table.specs.Table.{Accepted}
-use Rattle.table.proofs.Table.{refuted}
+use Rattle.table.proofs.Table.{refuted, no-refusal}
 use Rattle.space.specs.Closure.{closed, linearSpace, degree}
-use Rattle.space.specs.Completion.{completed}
-use Rattle.space.specs.Restriction.{equations as equationsOf, values}
+use Rattle.space.specs.Completion.{allOn, completed, completedPoints}
+use Rattle.space.specs.Restriction.{equations, values}
 use Rattle.space.proofs.Closure.{closed-at, closed-of, linear-reduced, linear-span, linear-below}
-use Rattle.space.proofs.Completion.{kept-on, kept-off, completed-rising, completed-points, completed-at}
+use Rattle.space.proofs.Completion.{kept-on, kept-off, completed-rising, completed-points, completed-at, completed-degree}
 use Rattle.space.proofs.Restriction.{restriction-at, restriction-rising, restriction-below, equations-length}
+use Rattle.form.specs.declared.FormPoints.{FormPoints}
+use Rattle.form.specs.declared.FormRewrite.{FormRewrite}
 use Rattle.form.specs.Form.{Form, ValidForm, formAt}
+use Rattle.form.specs.Reading.{pointsAnswer, rewriteAnswer}
+use Rattle.form.proofs.Answering.{points-ways, rewrite-ways}
 use Rattle.cubes.specs.Records.{maxListed}
 use Rattle.cover.specs.WrittenForm.{formSizeFault}
 use Rattle.cover.proofs.WrittenForm.{table-form-at}
-use Rattle.glospruma.specs.Spaces.{completedSpace}
-use Rattle.claims.specs.Demand2.{Reported, reported, formRoom, isOn, FormSays, Demand2}
-use Rattle.claims.proofs.FormBytes.{written-valid, bytes-decoded, bytes-accepted, bytes-points, bytes-again}
-use Rattle.claims.proofs.Reports.{Defined, reported-defined}
+use Rattle.writing.specs.declared.FormWritten.{FormWritten}
+use Rattle.writing.specs.Writing.{formBytes, writeAccepted, writeRefused, writeAnswer}
+use Rattle.writing.proofs.Answers.{none-first, size-first, write-ways}
+use Rattle.glospruma.specs.declared.LinearSpace.{LinearSpace}
+use Rattle.glospruma.specs.declared.Completion.{Completion}
+use Rattle.glospruma.specs.declared.Analysis.{Analysis}
+use Rattle.glospruma.specs.Spaces.{completedSpace, completedRestriction, completeAccepted, analyseAccepted, linearSpaceAnswer, linearSpaceAccepted}
+use Rattle.claims.specs.Demand2.{RoomsLent, Reported, reported, formRoom, isOn, CompleteSays, SpaceSays, AnalyseSays, FormSays, Demand2}
+use Rattle.claims.proofs.FormBytes.{written-valid, written-fits, bytes-decoded, bytes-accepted, bytes-points, bytes-again}
+use Rattle.claims.proofs.Reports.{Gave, complete-gave, complete-table, analyse-gave, write-gave, write-small, points-gave, rewrite-gave, space-gave, selected-accepted, selected-space}
 
--- ---- it holds of what the definitions say
+-- ---- a table that `complete` accepted, and its completed table
 
-module _ (n : ℕ) (on free : List ℕ) (a : Accepted n on free) (r : Reported) (d : Defined n on free r) where
+module _ (n : ℕ) (on free : List ℕ) (a : Accepted n on free) (r : Reported) (c : Gave (r .completion) (completeAccepted n on free) (r .points) (completedPoints n on free)) where
   abbrev f : ℕ → Bool
   f = completed n on free
 
   -- The completed table as it is reported, below 2 ^ n.
   on-at : (w : ℕ) → w < 2 ^ n → isOn r w ≡ f w
-  on-at w h = ap (λ (l : List ℕ). holds l w) (d .points) ∙ completed-at n on free w h
+  on-at w h = ap (λ (l : List ℕ). holds l w) (c .list) ∙ completed-at n on free w h
 
   points-in : (w : ℕ) → Mem w (r .points) → In n f w
-  points-in w m = completed-points n on free w .0 (subst (Mem w) (d .points) m)
+  points-in w m = completed-points n on free w .0 (subst (Mem w) (c .list) m)
 
   off : (w : ℕ) → (Mem w on → ⊥) → (Mem w free → ⊥) → isOn r w ≡ true → ⊥
   off w h k t =
       clash (points-in w (holds-mem (r .points) w .0 t) .1)
       (kept-off n on free w (refuted (holds on w) (λ e. h (holds-mem on w .0 e))) (refuted (holds free w) (λ e. k (holds-mem free w .0 e))))
+
+  -- What `linear_space` returns of the on points alone, and of on and free points together.
+  alone : Accepted n on []
+  alone = record {
+    some = a .some;
+    few = a .few;
+    on-below = a .on-below;
+    free-below = λ p m. absurd m;
+    on-rising = a .on-rising;
+    free-rising = tt;
+    apart = λ p l m. m;
+  }
+
+  selected-degree : (g : ℕ → Bool) → linearSpaceAnswer n (select g (2 ^ n)) .degree ≡ degree n g
+  unfolding degree
+  selected-degree g =
+      ap (λ (x : LinearSpace). x .degree) (space-gave n (select g (2 ^ n)) (selected-accepted n (a .some) (a .few) g)) ∙ ap length (selected-space n (a .some) (a .few) g)
+
+  complete-said : CompleteSays n on free r
+  complete-said = record {
+    completed = c .list;
+    marked-on = λ w m. on-at w (a .on-below w m) ∙ kept-on n on free w m;
+    marked-off = λ w h k. refuted (isOn r w) (off w h k);
+    rise = subst Rising (sym (c .list)) (completed-rising n on free);
+    below = λ w m. points-in w m .0;
+    count = ap (λ (x : Completion). x .count) (c .value) ∙ ap length (sym (c .list));
+    all-off = ap (λ (x : Completion). x .k0) (c .value) ∙ sym (ap (λ (x : LinearSpace). x .degree) (space-gave n on alone));
+    all-on = ap (λ (x : Completion). x .k1) (c .value) ∙ sym (selected-degree (allOn on free));
+    larger = ap (λ (x : Completion). x .degree) (c .value) ∙ completed-degree n on free ∙ sym (ap (λ (x : Completion). max (x .k0) (x .k1)) (c .value));
+  }
+
+  -- ---- its linear space
 
   -- The vectors that can be XORed in.
   closed-told : (v : ℕ) → In n (closed n f) v ↔ ((v < 2 ^ n) × ((w : ℕ) → w < 2 ^ n → isOn r (w ⊕ v) ≡ isOn r w))
@@ -55,50 +104,159 @@ module _ (n : ℕ) (on free : List ℕ) (a : Accepted n on free) (r : Reported) 
     λ p. (p .0, closed-of n f v (λ w h. sym (on-at (w ⊕ v) (xor-lt n w v h (p .0))) ∙ p .1 w h ∙ on-at w h)),
   )
 
-  vectors-told : (v : ℕ) → Span (r .basis) v ↔ In n (closed n f) v
-  vectors-told v = subst (λ (l : List ℕ). Span l v ↔ In n (closed n f) v) (sym (d .basis)) (linear-span n f v)
-
-  sized : n - length (r .basis) ≤ maxListed → formSizeFault n on free ≡ false
-  unfolding formSizeFault degree
-  sized h = le-ltb maxListed (n - length (completedSpace n on free)) (subst (λ (l : List ℕ). n - length l ≤ maxListed) (d .basis) h)
-
-  form-said : formSizeFault n on free ≡ false → FormSays n on free r
-  form-said small =
-      let q = d .form small in
-      let e = bytes-decoded n on free a small (r .form) q in
-      record {
-        accepted = bytes-accepted n on free a small (r .form) q;
-        valid = subst ValidForm (sym e) (written-valid n on free a small);
-        written = e;
-        value = λ w h. ap (λ (x : Form). formAt x w) e ∙ table-form-at n on free w h ∙ sym (on-at w h);
-        points = d .back small ∙ bytes-points n on free a small (r .form) q ∙ sym (d .points);
-        bytes = d .again small ∙ bytes-again n on free a small (r .form) q;
-      }
-
-  pub defined-said : Demand2 n on free r
-  defined-said = record {
-    completed = d .points;
-    marked-on = λ w m. on-at w (a .on-below w m) ∙ kept-on n on free w m;
-    marked-off = λ w h k. refuted (isOn r w) (off w h k);
-    points-rise = subst Rising (sym (d .points)) (completed-rising n on free);
-    points-below = λ w m. points-in w m .0;
-    reduced = subst Reduced (sym (d .basis)) (linear-reduced n f);
-    space = λ v. (λ s. closed-told v .0 (vectors-told v .0 s), λ p. vectors-told v .1 (closed-told v .1 p));
-    same-space = d .alone ∙ sym (d .basis);
-    through = λ w h. ap₂ (λ (l m : List ℕ). holds l (values m w)) (d .restriction) (d .equations) ∙ restriction-at n f w h ∙ sym (on-at w h);
-    restriction-rises = subst Rising (sym (d .restriction)) (restriction-rising n (linearSpace n f) f);
-    restriction-below = λ y m.
-        subst (λ (l : List ℕ). y < 2 ^ length l) (sym (d .equations)) (restriction-below n (linearSpace n f) f y (subst (Mem y) (d .restriction) m));
-    variables = ap₂ (λ (l m : List ℕ). length l + length m) (d .equations) (d .basis) ∙ lengths;
-    form = λ h. form-said (sized h);
+  space-said : (basis : List ℕ) (dimension : ℕ) → basis ≡ linearSpace n f → dimension ≡ length (linearSpace n f) → SpaceSays n r basis dimension
+  space-said basis dimension e d = record {
+    reduced = subst Reduced (sym e) (linear-reduced n f);
+    exactly = λ v. (λ s. closed-told v .0 (told v .0 s), λ p. told v .1 (closed-told v .1 p));
+    dimension = d ∙ ap length (sym e);
   }
     where
-      lengths : length (equationsOf n (linearSpace n f)) + length (linearSpace n f) ≡ n
-      lengths = equations-length n (linearSpace n f) (linear-reduced n f) (linear-below n f)
+      told : (v : ℕ) → Span basis v ↔ In n (closed n f) v
+      told v = subst (λ (l : List ℕ). Span l v ↔ In n (closed n f) v) (sym e) (linear-span n f v)
+
+  -- ---- what `analyse` reports
+
+  module _ (g : Gave (r .analysis) (analyseAccepted n on free) (r .restriction) (completedRestriction n on free)) where
+    basis-told : vectorsOf (r .analysis .basis) ≡ linearSpace n f
+    basis-told = ap (λ (x : Analysis). vectorsOf (x .basis)) (g .value) ∙ vectors-back (linearSpace n f)
+
+    masks-told : listed (r .analysis .equations) ≡ equations n (linearSpace n f)
+    masks-told = ap (λ (x : Analysis). listed (x .equations)) (g .value) ∙ listed-back (equations n (linearSpace n f))
+
+    canonical-told : listed (r .analysis .canonical) ≡ variablesAt n (canonicalPlaces n (linearSpace n f))
+    canonical-told = ap (λ (x : Analysis). listed (x .canonical)) (g .value) ∙ listed-back (variablesAt n (canonicalPlaces n (linearSpace n f)))
+
+    lengths : length (equations n (linearSpace n f)) + length (variablesAt n (canonicalPlaces n (linearSpace n f))) ≡ n
+    lengths =
+        omega (
+          arith,
+          length-map (canonicalPlaces n (linearSpace n f)) (indexOf n),
+          canonical-length n (linearSpace n f) (linear-reduced n f) (linear-below n f),
+          equations-length n (linearSpace n f) (linear-reduced n f) (linear-below n f),
+        )
+
+    analyse-said : AnalyseSays n r
+    unfolding degree
+    analyse-said = record {
+      space = space-said (vectorsOf (r .analysis .basis)) (r .analysis .degree) basis-told (ap (λ (x : Analysis). x .degree) (g .value));
+      canonical = canonical-told ∙ ap (λ (l : List ℕ). variablesAt n (canonicalPlaces n l)) (sym basis-told);
+      masks = masks-told ∙ ap (equations n) (sym basis-told);
+      variables = ap₂ (λ (l m : List ℕ). length l + length m) masks-told canonical-told ∙ lengths;
+      through = λ w h. ap₂ (λ (l m : List ℕ). holds l (values m w)) (g .list) masks-told ∙ restriction-at n f w h ∙ sym (on-at w h);
+      rise = subst Rising (sym (g .list)) (restriction-rising n (linearSpace n f) f);
+      below = λ y m. subst (λ (l : List ℕ). y < 2 ^ length l) (sym masks-told) (restriction-below n (linearSpace n f) f y (subst (Mem y) (g .list) m));
+      count = ap (λ (x : Analysis). x .count) (g .value) ∙ ap length (sym (g .list));
+    }
+
+  -- The number of variables that are left, by the degree reported.
+  left-told : formSizeFault n on free ≡ ltb maxListed (n - r .completion .degree)
+  unfolding formSizeFault
+  left-told = ap (λ (x : Completion). ltb maxListed (n - x .degree)) (sym (c .value))
+
+-- ---- a form that `write_form` handed over
+
+module _ (n : ℕ) (on free : List ℕ) (a : Accepted n on free) (small : formSizeFault n on free ≡ false) (bytes : List ℕ) (q : bytes ≡ formBytes n on free) (room : List ℕ) where
+  read-accepted : length (completedPoints n on free) ≤ length room → pointsAnswer bytes room .refusal ≡ 0
+  read-accepted h =
+      sym (ap (λ (x : FormPoints). x .refusal)
+      (points-ways bytes room .whole (bytes-accepted n on free a small bytes q) (omega (arith, ap length (bytes-points n on free a small bytes q))) _ _ refl refl .0))
+
+  rewrite-accepted : length bytes ≤ length room → rewriteAnswer bytes room .refusal ≡ 0
+  rewrite-accepted h =
+      sym (ap (λ (x : FormRewrite). x .refusal)
+      (rewrite-ways bytes room .whole (bytes-accepted n on free a small bytes q) (omega (arith, ap length (bytes-again n on free a small bytes q))) _ _ refl refl .0))
+
+-- ---- when a form is written
+
+module _ (n : ℕ) (on free : List ℕ) (a : Accepted n on free) (room : List ℕ) where
+  form-written : formSizeFault n on free ≡ false → formRoom ≤ length room → writeAnswer n on free room .refusal ≡ 0
+  form-written small h =
+      sym (ap (λ (x : FormWritten). x .refusal)
+      (write-ways n on free room .whole (none-first n on free (no-refusal n on free a) small) (omega (arith, written-fits n on free a small)) _ _ refl refl .0))
+
+  form-refused : formSizeFault n on free ≡ true → writeAnswer n on free room .refusal ≡ sizeFault
+  form-refused large =
+      sym (ap (λ (x : FormWritten). x .refusal)
+      (write-ways n on free room .faulty sizeFault (size-first n on free (no-refusal n on free a) large) (λ z. omega arith) (writeRefused sizeFault) refl .0))
 
 -- ---- demand 2
 
--- Of every accepted table, whatever the rooms hold: 2 ^ n points are enough, and 1,555 bytes.
-pub demand2 : (n : ℕ) (on free room bytes : List ℕ) → Accepted n on free → 2 ^ n ≤ length room → formRoom ≤ length bytes
-    → Demand2 n on free (reported n on free room bytes)
-demand2 n on free room bytes a enough long = defined-said n on free a (reported n on free room bytes) (reported-defined n on free room bytes a enough long)
+-- Of every table and all rooms, whatever they hold.
+module _ (n : ℕ) (on free : List ℕ) (lent : RoomsLent) where
+  abbrev r : Reported
+  r = reported n on free lent
+
+  table : r .completion .refusal ≡ 0 → Accepted n on free
+  unfolding reported
+  table = complete-table n on free (lent .completing)
+
+  completing : r .completion .refusal ≡ 0 → Gave (r .completion) (completeAccepted n on free) (r .points) (completedPoints n on free)
+  unfolding reported
+  completing = complete-gave n on free (lent .completing)
+
+  analysing : r .analysis .refusal ≡ 0 → Gave (r .analysis) (analyseAccepted n on free) (r .restriction) (completedRestriction n on free)
+  unfolding reported
+  analysing = analyse-gave n on free (lent .analysing)
+
+  writing : r .written .refusal ≡ 0 → Gave (r .written) (writeAccepted n on free) (r .form) (formBytes n on free)
+  unfolding reported
+  writing = write-gave n on free (lent .writing)
+
+  spaced : r .completion .refusal ≡ 0 → r .space ≡ linearSpaceAccepted n (completedPoints n on free)
+  unfolding reported completedPoints
+  spaced e =
+      let a = table e in
+      ap (linearSpaceAnswer n) (completing e .list)
+      ∙ space-gave n (completedPoints n on free) (selected-accepted n (a .some) (a .few) (completed n on free))
+
+  spaced-basis : r .completion .refusal ≡ 0 → linearSpace n (holds (completedPoints n on free)) ≡ linearSpace n (completed n on free)
+  unfolding completedPoints
+  spaced-basis e = let a = table e in selected-space n (a .some) (a .few) (completed n on free)
+
+  spaced-degree : r .completion .refusal ≡ 0 → r .space .degree ≡ degree n (completed n on free)
+  unfolding degree
+  spaced-degree e = ap (λ (x : LinearSpace). x .degree) (spaced e) ∙ ap length (spaced-basis e)
+
+  form-said : r .completion .refusal ≡ 0 → r .written .refusal ≡ 0 → FormSays n on free lent r
+  unfolding reported
+  form-said e w =
+      let a = table e in
+      let c = completing e in
+      let g = writing w in
+      let small = write-small n on free (lent .writing) w in
+      let q = bytes-decoded n on free a small (r .form) (g .list) in
+      record {
+        valid = subst ValidForm (sym q) (written-valid n on free a small);
+        products = q;
+        size = ap (λ (x : FormWritten). x .length) (g .value) ∙ ap length (sym (g .list));
+        count = ap (λ (x : FormWritten). x .products) (g .value) ∙ sym (ap (λ (x : Form). length (x .products)) q);
+        value = λ v h. ap (λ (x : Form). formAt x v) q ∙ table-form-at n on free v h ∙ sym (on-at n on free a r c v h);
+        reads = λ h. read-accepted n on free a small (r .form) (g .list) (lent .reading) (subst (λ (l : List ℕ). length l ≤ length (lent .reading)) (c .list) h);
+        points = λ p.
+            let b = points-gave (r .form) (lent .reading) p in (
+              b .list ∙ bytes-points n on free a small (r .form) (g .list) ∙ sym (c .list),
+              ap (λ (x : FormPoints). x .count) (b .value) ∙ ap length (sym (b .list)),
+              ap (λ (x : FormPoints). x .variables) (b .value) ∙ ap (λ (x : Form). x .variables) q,
+            );
+        rewrites = rewrite-accepted n on free a small (r .form) (g .list) (lent .rewriting);
+        bytes = λ p.
+            let b = rewrite-gave (r .form) (lent .rewriting) p in (
+              b .list ∙ bytes-again n on free a small (r .form) (g .list),
+              ap (λ (x : FormRewrite). x .length) (b .value) ∙ ap length (sym (b .list)),
+            );
+      }
+
+  pub demand2 : Demand2 n on free lent (reported n on free lent)
+  unfolding degree reported
+  demand2 = record {
+    complete = λ e. complete-said n on free (table e) r (completing e);
+    accepted = λ e. ap (λ (x : LinearSpace). x .refusal) (spaced e);
+    space = λ e.
+        space-said n on free (table e) r (completing e) (vectorsOf (r .space .basis)) (r .space .degree)
+        (ap (λ (x : LinearSpace). vectorsOf (x .basis)) (spaced e) ∙ vectors-back (linearSpace n (holds (completedPoints n on free))) ∙ spaced-basis e) (spaced-degree e);
+    degree = λ e. ap (λ (x : Completion). x .degree) (completing e .value) ∙ sym (spaced-degree e);
+    analyse = λ e g. analyse-said n on free (table e) r (completing e) (analysing g);
+    form = form-said;
+    small = λ e h. form-written n on free (table e) (lent .writing) (left-told n on free (table e) r (completing e) ∙ le-ltb maxListed (n - r .completion .degree) h);
+    large = λ e h. form-refused n on free (table e) (lent .writing) (left-told n on free (table e) r (completing e) ∙ lt-ltb maxListed (n - r .completion .degree) h);
+  }

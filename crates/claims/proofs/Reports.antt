@@ -1,125 +1,127 @@
--- What the public calls report of an accepted table, with rooms that are long enough, is what the definitions say. Read next: Demand2.
+-- What an accepted call returns and hands over is what the definitions say: from demand 1, call by call. Read next: Demand2.
 use mathlib.Core.Path.{_≡_, refl, sym, ap, ap₂, _∙_}
-use mathlib.Core.Bool.{false}
-use mathlib.Core.List.{List, []}
-use Prim.Native.Nat.{ℕ, _^_, _≤_}
-use native.Mathlib.Omega.{arith}
-use lib.ListN.{length, take, drop}
-use lib.Pow.{pow-mono}
+use mathlib.Core.Bool.{Bool, false}
+use mathlib.Core.Logic.{inl, inr}
+use mathlib.Core.List.{List, [], _∷_, _++_}
+use Prim.Native.Nat.{ℕ, _^_, _≤_, _<_}
+use lib.ListN.{length, take, drop, getD}
 use lib.Seq.{take-append-seam}
-use Rattle.gf2.specs.Finite.{holds}
-use Rattle.gf2.proofs.Finite.{select-length}
-use Rattle.basis.specs.Short.{listed}
-use Rattle.basis.specs.Reduced.{vectorsOf}
-use Rattle.basis.proofs.Values.{vectors-back, listed-back}
-use Rattle.table.specs.Decision.{front}
-use Rattle.table.specs.Table.{tableFault, Accepted}
-use Rattle.table.proofs.Table.{no-refusal}
+use Rattle.gf2.specs.Limits.{maxVariables}
+use Rattle.gf2.specs.Finite.{holds, select}
+use Rattle.gf2.proofs.Logic.{same}
+use Rattle.gf2.proofs.Finite.{holds-mem, select-mem, mem-select, select-rising}
+use Rattle.table.specs.Refusal.{Test, test, NoneApplies, sizeFault}
+use Rattle.table.specs.Decision.{front, roomTest}
+use Rattle.table.specs.Table.{tableTests, tableFault, Accepted}
+use Rattle.table.proofs.Refusal.{no-fault}
+use Rattle.table.proofs.Table.{table-numbered, accepted, no-refusal}
 use Rattle.table.proofs.Decide.{decide-accepted}
 use Rattle.space.specs.Closure.{linearSpace}
-use Rattle.space.specs.Completion.{completed, completedPoints}
-use Rattle.space.specs.Restriction.{equations as equationsOf}
+use Rattle.space.specs.Completion.{completedPoints}
 use Rattle.space.proofs.Closure.{linear-ext}
-use Rattle.space.proofs.Completion.{completed-rising, completed-points, completed-at}
-use Rattle.space.proofs.Restriction.{restriction-length, linear-equations}
 use Rattle.form.specs.declared.FormPoints.{FormPoints}
 use Rattle.form.specs.declared.FormRewrite.{FormRewrite}
-use Rattle.form.specs.Reading.{pointsRead, rewritten}
-use Rattle.form.proofs.Answering.{points-ways, rewrite-ways}
+use Rattle.form.specs.Reading.{pointsRead, acceptedPoints, pointsAnswer, pointsAfter, rewritten, acceptedRewrite, rewriteAnswer, rewriteAfter}
+use Rattle.cubes.proofs.Lists.{mem-append}
 use Rattle.cover.specs.WrittenForm.{formSizeFault}
 use Rattle.writing.specs.declared.FormWritten.{FormWritten}
-use Rattle.writing.specs.Writing.{formBytes, writeAccepted, writeAnswer, writeAfter}
-use Rattle.writing.proofs.Answers.{none-first, write-ways}
-use Rattle.glospruma.specs.declared.LinearSpace.{LinearSpace}
+use Rattle.writing.specs.Writing.{formBytes, formTests, writeAccepted, writeAnswer, writeAfter}
 use Rattle.glospruma.specs.declared.Completion.{Completion}
 use Rattle.glospruma.specs.declared.Analysis.{Analysis}
-use Rattle.glospruma.proofs.Completions.{complete-ways, analyse-ways}
-use Rattle.glospruma.specs.Spaces.{linearSpaceTests, linearSpaceAccepted, linearSpaceRefused, linearSpaceAnswer, completedSpace, completedRestriction, completeAccepted, completeAnswer, completeRoom, analyseAccepted, analyseAnswer, analyseRoom}
-use Rattle.claims.specs.Demand2.{Reported, reported, formRoom}
-use Rattle.claims.proofs.FormBytes.{written-fits, bytes-accepted, bytes-points, bytes-again}
+use Rattle.glospruma.specs.Spaces.{linearSpaceTests, linearSpaceAccepted, linearSpaceRefused, linearSpaceAnswer, completedRestriction, completeAccepted, completeAnswer, completeRoom, analyseAccepted, analyseAnswer, analyseRoom}
+use Rattle.claims.specs.Demand1.{lent, Decides}
+use Rattle.claims.proofs.Demand1.{demand1}
 
--- What is reported of a table is what the definitions say. The form is written, and so read back, where its restriction has at most six variables.
-pub record Defined (n : ℕ) (on free : List ℕ) (r : Reported) : Type 0 where
-  pub points : r .points ≡ completedPoints n on free
-  pub basis : r .basis ≡ completedSpace n on free
-  pub equations : r .equations ≡ equationsOf n (completedSpace n on free)
-  pub restriction : r .restriction ≡ completedRestriction n on free
-  pub alone : r .alone ≡ completedSpace n on free
-  pub form : formSizeFault n on free ≡ false → r .form ≡ formBytes n on free
-  pub back : formSizeFault n on free ≡ false → r .back ≡ pointsRead (r .form)
-  pub again : formSizeFault n on free ≡ false → r .again ≡ rewritten (r .form)
+-- ---- any call with one room
 
--- ---- each call
+-- What was returned and handed over: the accepted answer, and the whole list that belongs to it.
+pub record Gave {A : Type 0} (returned accepted : A) (handed whole : List ℕ) : Type 0 where
+  pub value : returned ≡ accepted
+  pub list : handed ≡ whole
 
--- What an accepted call hands over is its answer.
-handed : {A : Type 0} {after : List ℕ} (count : A → ℕ) {accepted returned : A} (answer room : List ℕ) → count accepted ≡ length answer
-    → (accepted ≡ returned) × (front answer room ≡ after) → take (count returned) after ≡ answer
-handed {A} count answer room c e =
-    sym (ap₂ (λ (x : A) (l : List ℕ). take (count x) l) (e .0) (e .1)) ∙ ap (λ (k : ℕ). take k (front answer room)) c ∙ take-append-seam answer (drop (length answer) room)
+-- An accepted call hands over its list, if it counts it.
+gave : {A : Type 0} {numbers : List ℕ} {tests : List Test} {refusal : A → ℕ} {others : A → List ℕ} {accepted returned : A} {written before after : List ℕ}
+    → Decides numbers tests refusal others accepted returned (lent written before after ∷ []) → (count : A → ℕ) → count accepted ≡ length written
+    → refusal returned ≡ 0 → Gave returned accepted (take (count returned) after) written
+gave {A} {written = written} {before} d count c e =
+    let a = d .accepts e in record {
+      value = a .0;
+      list = ap₂ (λ (x : A) (l : List ℕ). take (count x) l) (a .0) (ap (λ (l : List (List ℕ)). getD l 0 []) (a .1))
+          ∙ ap (λ (k : ℕ). take k (front written before)) c ∙ take-append-seam written (drop (length written) before);
+    }
 
-module _ (n : ℕ) (on free room bytes : List ℕ) (a : Accepted n on free) (enough : 2 ^ n ≤ length room) (long : formRoom ≤ length bytes) where
-  few-points : length (completedPoints n on free) ≤ 2 ^ n
-  unfolding completedPoints
-  few-points = select-length (completed n on free) (2 ^ n)
+-- Tests none of which applies: neither does one of the first of them, nor one of the last.
+none-first : (ts us : List Test) → NoneApplies (ts ++ us) → NoneApplies ts
+none-first ts us h t m = h t (mem-append ts us t (inl m))
 
-  completing : (completeAccepted n on free ≡ completeAnswer n on free room) × (front (completedPoints n on free) room ≡ completeRoom n on free room)
-  completing = complete-ways n on free room .whole (no-refusal n on free a) (omega (arith, few-points)) _ _ refl refl
+none-last : (ts us : List Test) → NoneApplies (ts ++ us) → NoneApplies us
+none-last ts us h t m = h t (mem-append ts us t (inr m))
 
-  analysing : (analyseAccepted n on free ≡ analyseAnswer n on free room) × (front (completedRestriction n on free) room ≡ analyseRoom n on free room)
-  analysing = analyse-ways n on free room .whole (no-refusal n on free a) (omega (arith, restriction-length n (completedSpace n on free) (completed n on free), pow-mono fewer)) _ _ refl refl
-    where
-      fewer : length (equationsOf n (completedSpace n on free)) ≤ n
-      fewer = omega (arith, linear-equations n (completed n on free))
+-- A table none of whose tests applies is accepted.
+table-accepted : (n : ℕ) (on free : List ℕ) → NoneApplies (tableTests n on free) → Accepted n on free
+unfolding tableFault
+table-accepted n on free h = accepted n on free (no-fault (tableTests n on free) (table-numbered n on free) .1 h)
 
-  points : take (completeAnswer n on free room .count) (completeRoom n on free room) ≡ completedPoints n on free
-  points = handed (λ (x : Completion). x .count) (completedPoints n on free) room refl completing
+-- ---- the calls on a table
 
-  -- The points of the completed table are a table without free points, with the same linear space.
-  alone : vectorsOf (linearSpaceAnswer n (completedPoints n on free) .basis) ≡ completedSpace n on free
-  unfolding tableFault
-  alone =
-      ap (λ (x : LinearSpace). vectorsOf (x .basis))
-      (decide-accepted (linearSpaceTests n (completedPoints n on free)) (linearSpaceAccepted n (completedPoints n on free)) linearSpaceRefused (no-refusal n (completedPoints n on free) [] sound))
-      ∙ vectors-back (linearSpace n (holds (completedPoints n on free)))
-      ∙ linear-ext n (holds (completedPoints n on free)) (completed n on free) (completed-at n on free)
-    where
-      sound : Accepted n (completedPoints n on free) []
-      sound = record {
-        some = a .some;
-        few = a .few;
-        on-below = λ p m. completed-points n on free p .0 m .0;
-        free-below = λ p m. absurd m;
-        on-rising = completed-rising n on free;
-        free-rising = tt;
-        apart = λ p l m. m;
-      }
+module _ (n : ℕ) (on free room : List ℕ) where
+  pub complete-gave : completeAnswer n on free room .refusal ≡ 0
+      → Gave (completeAnswer n on free room) (completeAccepted n on free) (take (completeAnswer n on free room .count) (completeRoom n on free room)) (completedPoints n on free)
+  complete-gave = gave (demand1 .complete n on free room) (λ (r : Completion). r .count) refl
 
-  writing : formSizeFault n on free ≡ false → (writeAccepted n on free ≡ writeAnswer n on free bytes) × (front (formBytes n on free) bytes ≡ writeAfter n on free bytes)
-  writing small = write-ways n on free bytes .whole (none-first n on free (no-refusal n on free a) small) (omega (arith, written-fits n on free a small)) _ _ refl refl
+  pub complete-table : completeAnswer n on free room .refusal ≡ 0 → Accepted n on free
+  complete-table e =
+      table-accepted n on free
+      (none-first (tableTests n on free) (roomTest (completedPoints n on free) room) (demand1 .complete n on free room .exact .accepted .0 e))
 
-  abbrev form : List ℕ
-  form = take (writeAnswer n on free bytes .length) (writeAfter n on free bytes)
+  pub analyse-gave : analyseAnswer n on free room .refusal ≡ 0
+      → Gave (analyseAnswer n on free room) (analyseAccepted n on free) (take (analyseAnswer n on free room .count) (analyseRoom n on free room)) (completedRestriction n on free)
+  analyse-gave = gave (demand1 .analyse n on free room) (λ (r : Analysis). r .count) refl
 
-  written : formSizeFault n on free ≡ false → form ≡ formBytes n on free
-  written small = handed (λ (x : FormWritten). x .length) (formBytes n on free) bytes refl (writing small)
+  pub write-gave : writeAnswer n on free room .refusal ≡ 0
+      → Gave (writeAnswer n on free room) (writeAccepted n on free) (take (writeAnswer n on free room .length) (writeAfter n on free room)) (formBytes n on free)
+  write-gave = gave (demand1 .write-form n on free room) (λ (r : FormWritten). r .length) refl
 
-  -- ---- all of them
+  pub write-small : writeAnswer n on free room .refusal ≡ 0 → formSizeFault n on free ≡ false
+  write-small e =
+      none-last (tableTests n on free) (test sizeFault (formSizeFault n on free) ∷ [])
+      (none-first (formTests n on free) (roomTest (formBytes n on free) room) (demand1 .write-form n on free room .exact .accepted .0 e))
+      (test sizeFault (formSizeFault n on free)) (inl refl)
 
-  pub reported-defined : Defined n on free (reported n on free room bytes)
-  unfolding reported
-  reported-defined = record {
-    points = points;
-    basis = sym (ap (λ (x : Analysis). vectorsOf (x .basis)) (analysing .0)) ∙ vectors-back (completedSpace n on free);
-    equations = sym (ap (λ (x : Analysis). listed (x .equations)) (analysing .0)) ∙ listed-back (equationsOf n (completedSpace n on free));
-    restriction = handed (λ (x : Analysis). x .count) (completedRestriction n on free) room refl analysing;
-    alone = ap (λ (l : List ℕ). vectorsOf (linearSpaceAnswer n l .basis)) points ∙ alone;
-    form = written;
-    back = λ small.
-        handed (λ (x : FormPoints). x .count) (pointsRead form) room refl
-        (points-ways form room .whole (bytes-accepted n on free a small form (written small))
-        (omega (arith, ap length (bytes-points n on free a small form (written small)), few-points)) _ _ refl refl);
-    again = λ small.
-        handed (λ (x : FormRewrite). x .length) (rewritten form) bytes refl
-        (rewrite-ways form bytes .whole (bytes-accepted n on free a small form (written small))
-        (omega (arith, ap length (bytes-again n on free a small form (written small)), ap length (written small), written-fits n on free a small)) _ _ refl refl);
+-- ---- the calls on the bytes of a form
+
+module _ (bytes room : List ℕ) where
+  pub points-gave : pointsAnswer bytes room .refusal ≡ 0
+      → Gave (pointsAnswer bytes room) (acceptedPoints bytes) (take (pointsAnswer bytes room .count) (pointsAfter bytes room)) (pointsRead bytes)
+  points-gave = gave (demand1 .form-points bytes room) (λ (r : FormPoints). r .count) refl
+
+  pub rewrite-gave : rewriteAnswer bytes room .refusal ≡ 0
+      → Gave (rewriteAnswer bytes room) (acceptedRewrite bytes) (take (rewriteAnswer bytes room .length) (rewriteAfter bytes room)) (rewritten bytes)
+  rewrite-gave = gave (demand1 .form-rewrite bytes room) (λ (r : FormRewrite). r .length) refl
+
+-- ---- `linear_space` of a function's points
+
+pub space-gave : (n : ℕ) (on : List ℕ) → Accepted n on [] → linearSpaceAnswer n on ≡ linearSpaceAccepted n on
+unfolding tableFault
+space-gave n on a = decide-accepted (linearSpaceTests n on) (linearSpaceAccepted n on) linearSpaceRefused (no-refusal n on [] a)
+
+-- The points of a function are a table without free points, with the function's linear space.
+module _ (n : ℕ) (some : 1 ≤ n) (few : n ≤ maxVariables) (f : ℕ → Bool) where
+  selected-at : (w : ℕ) → w < 2 ^ n → holds (select f (2 ^ n)) w ≡ f w
+  selected-at w h =
+      same (holds (select f (2 ^ n)) w) (f w) (λ e. select-mem f (2 ^ n) w (holds-mem (select f (2 ^ n)) w .0 e) .1)
+      (λ e. holds-mem (select f (2 ^ n)) w .1 (mem-select f (2 ^ n) w h e))
+
+  pub selected-accepted : Accepted n (select f (2 ^ n)) []
+  selected-accepted = record {
+    some = some;
+    few = few;
+    on-below = λ p m. select-mem f (2 ^ n) p m .0;
+    free-below = λ p m. absurd m;
+    on-rising = select-rising f (2 ^ n);
+    free-rising = tt;
+    apart = λ p l m. m;
   }
+
+  pub selected-space : linearSpace n (holds (select f (2 ^ n))) ≡ linearSpace n f
+  selected-space = linear-ext n (holds (select f (2 ^ n))) f selected-at

@@ -1,30 +1,43 @@
--- Demand 1: every table, form and number gets an answer; what is wrong is refused under one fixed number, in one fixed order, with all lent
--- memory as before. No public call has a `requires`, and its contract says that it returns the answer named here and leaves each lent room as
--- named here (crates/glospruma/src/lib.rt), so what is said of these is said of the running calls, on all inputs. Read next: Demand2.
+-- Demand 1: every table, form and number gets an answer; what is wrong is refused under one fixed number, in one fixed order, with every other
+-- number 0 and all lent memory as before. No public call has a `requires`. Its contract (crates/glospruma/src/lib.rt) says that it returns the answer
+-- and leaves each lent room as its line here names them, under the names of its parameters, so what is said of these is said of the running
+-- calls, on all inputs; a test of the documents compares the two. Read next: Demand2.
 use mathlib.Core.Path.{_≡_}
 use mathlib.Core.Bool.{false}
 use mathlib.Core.Logic.{_≢_}
-use mathlib.Core.List.{List, [], _∷_, map}
+use mathlib.Core.List.{List, [], _∷_, _++_, map}
 use Prim.Native.Nat.{ℕ}
-use lib.ListN.{length}
+use lib.ListN.{length, replicate}
 use Rattle.gf2.specs.Finite.{holds}
+use Rattle.basis.specs.declared.Basis.{Basis}
+use Rattle.basis.specs.declared.ShortList.{ShortList}
 use Rattle.table.specs.Refusal.{Test, Exact, variablesFault, pointFault, orderFault, sharedFault, sizeFault, affineFault, roomFault, layoutFault, placeFault}
 use Rattle.table.specs.Decision.{front}
 use Rattle.table.specs.Table.{shared}
+use Rattle.stored.specs.declared.TableRead.{TableRead}
 use Rattle.stored.specs.Marks.{storedVariables, storedOn, storedFree}
 use Rattle.stored.specs.Stored.{storedTests, storedFault}
-use Rattle.stored.specs.Reading.{readTests, acceptedRead, refusedRead, readAnswer, onAfter, freeAfter}
+use Rattle.stored.specs.Reading.{readTests, acceptedRead, readAnswer, onAfter, freeAfter}
 use Rattle.space.specs.Completion.{completedPoints}
-use Rattle.form.specs.Reading.{pointsRead, pointsTests, acceptedPoints, refusedPoints, pointsAnswer, pointsAfter, rewritten, rewriteTests, acceptedRewrite, refusedRewrite, rewriteAnswer, rewriteAfter}
+use Rattle.form.specs.declared.FormPoints.{FormPoints}
+use Rattle.form.specs.declared.FormRewrite.{FormRewrite}
+use Rattle.form.specs.Reading.{pointsRead, pointsTests, acceptedPoints, pointsAnswer, pointsAfter, rewritten, rewriteTests, acceptedRewrite, rewriteAnswer, rewriteAfter}
 use Rattle.cubes.specs.Lists.{keep}
 use Rattle.cubes.specs.Records.{recordsOf}
-use Rattle.cubes.specs.Listing.{Call, listing, listingTests, accepting, refusing, answer, listingRoom}
-use Rattle.writing.specs.Writing.{formBytes, writeTests, writeAccepted, writeRefused, writeAnswer, writeAfter}
+use Rattle.cubes.specs.Listing.{listing, listingTests, Answer, accepting, answer, listingRoom}
+use Rattle.listing.specs.Answers.{callOf}
+use Rattle.writing.specs.declared.FormWritten.{FormWritten}
+use Rattle.writing.specs.Writing.{formBytes, writeTests, writeAccepted, writeAnswer, writeAfter}
 use Rattle.table_report.specs.Text.{refusedLine, tableText}
 use Rattle.report.specs.Report.{reportText}
-use Rattle.report.specs.Answer.{reportTests, reportAccepted, reportRefused, reportAnswer, reportAfter}
-use Rattle.glospruma.specs.Spaces.{linearSpaceTests, linearSpaceAccepted, linearSpaceRefused, linearSpaceAnswer, completeTests, completeAccepted, completeRefused, completeAnswer, completeRoom, completedRestriction, analyseTests, analyseAccepted, analyseRefused, analyseAnswer, analyseRoom}
-use Rattle.glospruma.specs.Affine.{affineProjection, affineTests, affineAccepted, affineRefused, affineAnswer, affineRoom}
+use Rattle.report.specs.declared.ReportWritten.{ReportWritten}
+use Rattle.report.specs.Answer.{reportTests, reportAccepted, reportAnswer, reportAfter}
+use Rattle.glospruma.specs.declared.LinearSpace.{LinearSpace}
+use Rattle.glospruma.specs.declared.Completion.{Completion}
+use Rattle.glospruma.specs.declared.Analysis.{Analysis}
+use Rattle.glospruma.specs.declared.Affine.{Affine}
+use Rattle.glospruma.specs.Spaces.{linearSpaceTests, linearSpaceAccepted, linearSpaceAnswer, completeTests, completeAccepted, completeAnswer, completeRoom, completedRestriction, analyseTests, analyseAccepted, analyseAnswer, analyseRoom}
+use Rattle.glospruma.specs.Affine.{affineProjection, affineTests, affineAccepted, affineAnswer, affineRoom}
 
 -- ---- one call
 
@@ -35,71 +48,122 @@ refusalOrder = layoutFault ∷ variablesFault ∷ pointFault ∷ orderFault ∷ 
 -- A lent room: the list that an accepted call writes to it, what it held when it was lent, and what it holds as the call returns.
 pub record Room : Type 0 where
   pub written : List ℕ
-  pub lent : List ℕ
+  pub before : List ℕ
   pub after : List ℕ
 
-abbrev pub room : List ℕ → List ℕ → List ℕ → Room
-room written lent after = record { written = written; lent = lent; after = after }
+abbrev pub lent : List ℕ → List ℕ → List ℕ → Room
+lent written before after = record { written = written; before = before; after = after }
 
--- A call decides by its tests, which have these numbers. It gave a refusal number, 0 if none, and returned `returned`: an accepted call returns
--- `accepted`, one refused under a number what `refused` has for it, which is that number and 0 for every other.
-pub record Decides {A : Type 0} (numbers : List ℕ) (tests : List Test) (given : ℕ) (accepted : A) (refused : ℕ → A) (returned : A) (rooms : List Room) : Type 0 where
+-- All of these numbers are 0.
+abbrev pub AllZero : List ℕ → Type 0
+AllZero numbers = numbers ≡ replicate (length numbers) 0
+
+-- A call decides by its tests, which have these numbers, and returned `returned`, of which `refusal` is the refusal number, 0 if it was accepted, and
+-- `others` are all other numbers, those of its lists and their lengths included. An accepted call returns `accepted`.
+pub record Decides {A : Type 0} (numbers : List ℕ) (tests : List Test) (refusal : A → ℕ) (others : A → List ℕ) (accepted returned : A) (rooms : List Room) : Type 0 where
   -- The tests have these numbers, and stand in the one fixed order.
   pub tested : map (λ t. t .number) tests ≡ numbers
   pub order : keep (holds numbers) refusalOrder ≡ numbers
   -- Refusal r is given exactly when a test of number r applies and none before it does; 0 exactly when none applies.
-  pub exact : Exact tests given
+  pub exact : Exact tests (refusal returned)
   -- Accepted: each room has its list at the front, and the rest of it is as lent.
-  pub accepts : given ≡ 0 → (returned ≡ accepted) × (map (λ r. r .after) rooms ≡ map (λ r. front (r .written) (r .lent)) rooms)
-  -- Refused: nothing is returned but the number, and each room is as lent.
-  pub refuses : given ≢ 0 → (returned ≡ refused given) × (map (λ r. r .after) rooms ≡ map (λ r. r .lent) rooms)
+  pub accepts : refusal returned ≡ 0 → (returned ≡ accepted) × (map (λ r. r .after) rooms ≡ map (λ r. front (r .written) (r .before)) rooms)
+  -- Refused: every other number is 0, so that every list is empty, and each room is as lent.
+  pub refuses : refusal returned ≢ 0 → AllZero (others returned) × (map (λ r. r .after) rooms ≡ map (λ r. r .before) rooms)
+
+-- ---- all other numbers of each answer
+
+abbrev pub basisNumbers : Basis → List ℕ
+basisNumbers b = b .len ∷ b .vectors
+
+abbrev pub shortNumbers : ShortList → List ℕ
+shortNumbers s = s .len ∷ s .values
+
+abbrev pub readOthers : TableRead → List ℕ
+readOthers r = r .variables ∷ r .«on_count» ∷ r .«free_count» ∷ []
+
+abbrev pub linearSpaceOthers : LinearSpace → List ℕ
+linearSpaceOthers r = r .degree ∷ basisNumbers (r .basis)
+
+abbrev pub completeOthers : Completion → List ℕ
+completeOthers r = r .count ∷ r .degree ∷ r .k0 ∷ r .k1 ∷ []
+
+abbrev pub analyseOthers : Analysis → List ℕ
+analyseOthers r = r .degree ∷ r .count ∷ (basisNumbers (r .basis) ++ (shortNumbers (r .canonical) ++ shortNumbers (r .equations)))
+
+abbrev pub affineOthers : Affine → List ℕ
+affineOthers r = r .least ∷ r .dimension ∷ r .count ∷ basisNumbers (r .basis)
+
+abbrev pub writeOthers : FormWritten → List ℕ
+writeOthers r = r .length ∷ r .products ∷ []
+
+abbrev pub listingOthers : Answer → List ℕ
+listingOthers r = r .next ∷ r .passed ∷ r .records ∷ []
+
+abbrev pub pointsOthers : FormPoints → List ℕ
+pointsOthers r = r .variables ∷ r .count ∷ []
+
+abbrev pub rewriteOthers : FormRewrite → List ℕ
+rewriteOthers r = r .length ∷ []
+
+abbrev pub reportOthers : ReportWritten → List ℕ
+reportOthers r = r .length ∷ []
+
+-- ---- the printed report
+
+-- The tests of a stored table decide what is printed: a table refused prints `refused N` and nothing else. Where only the form is refused, 5 stands in
+-- the text of the table.
+pub record Printed (bytes : List ℕ) : Type 0 where
+  pub tested : map (λ t. t .number) (storedTests bytes) ≡ 8 ∷ 1 ∷ 2 ∷ 3 ∷ []
+  pub exact : Exact (storedTests bytes) (storedFault bytes)
+  pub accepts : storedFault bytes ≡ 0 → reportText bytes ≡ tableText (storedVariables bytes) (storedOn bytes) (storedFree bytes)
+  pub refuses : storedFault bytes ≢ 0 → reportText bytes ≡ refusedLine (storedFault bytes)
 
 -- ---- every public call, on all inputs
 
 pub record Demand1 : Type 0 where
   pub read-table : (bytes on free : List ℕ)
-      → Decides (8 ∷ 1 ∷ 2 ∷ 3 ∷ 7 ∷ []) (readTests bytes (length on) (length free)) (readAnswer bytes (length on) (length free) .refusal)
-      (acceptedRead bytes) refusedRead (readAnswer bytes (length on) (length free))
-      (room (storedOn bytes) on (onAfter bytes on free) ∷ room (storedFree bytes) free (freeAfter bytes on free) ∷ [])
+      → Decides (8 ∷ 1 ∷ 2 ∷ 3 ∷ 7 ∷ []) (readTests bytes (length on) (length free)) (λ r. r .refusal) readOthers
+      (acceptedRead bytes) (readAnswer bytes (length on) (length free))
+      (lent (storedOn bytes) on (onAfter bytes on free) ∷ lent (storedFree bytes) free (freeAfter bytes on free) ∷ [])
   pub linear-space : (n : ℕ) (on : List ℕ)
-      → Decides (1 ∷ 2 ∷ 3 ∷ 4 ∷ []) (linearSpaceTests n on) (linearSpaceAnswer n on .refusal) (linearSpaceAccepted n on) linearSpaceRefused (linearSpaceAnswer n on) []
-  pub complete : (n : ℕ) (on free lent : List ℕ)
-      → Decides (1 ∷ 2 ∷ 3 ∷ 4 ∷ 7 ∷ []) (completeTests n on free lent) (completeAnswer n on free lent .refusal)
-      (completeAccepted n on free) completeRefused (completeAnswer n on free lent)
-      (room (completedPoints n on free) lent (completeRoom n on free lent) ∷ [])
-  pub analyse : (n : ℕ) (on free lent : List ℕ)
-      → Decides (1 ∷ 2 ∷ 3 ∷ 4 ∷ 7 ∷ []) (analyseTests n on free lent) (analyseAnswer n on free lent .refusal)
-      (analyseAccepted n on free) analyseRefused (analyseAnswer n on free lent)
-      (room (completedRestriction n on free) lent (analyseRoom n on free lent) ∷ [])
-  pub affine : (n : ℕ) (on lent : List ℕ)
-      → Decides (1 ∷ 2 ∷ 3 ∷ 4 ∷ 6 ∷ 7 ∷ []) (affineTests n on lent) (affineAnswer n on lent .refusal)
-      (affineAccepted n on) affineRefused (affineAnswer n on lent)
-      (room (affineProjection n on) lent (affineRoom n on lent) ∷ [])
+      → Decides (1 ∷ 2 ∷ 3 ∷ 4 ∷ []) (linearSpaceTests n on) (λ r. r .refusal) linearSpaceOthers
+      (linearSpaceAccepted n on) (linearSpaceAnswer n on)
+      []
+  pub complete : (n : ℕ) (on free room : List ℕ)
+      → Decides (1 ∷ 2 ∷ 3 ∷ 4 ∷ 7 ∷ []) (completeTests n on free room) (λ r. r .refusal) completeOthers
+      (completeAccepted n on free) (completeAnswer n on free room)
+      (lent (completedPoints n on free) room (completeRoom n on free room) ∷ [])
+  pub analyse : (n : ℕ) (on free room : List ℕ)
+      → Decides (1 ∷ 2 ∷ 3 ∷ 4 ∷ 7 ∷ []) (analyseTests n on free room) (λ r. r .refusal) analyseOthers
+      (analyseAccepted n on free) (analyseAnswer n on free room)
+      (lent (completedRestriction n on free) room (analyseRoom n on free room) ∷ [])
+  pub affine : (n : ℕ) (on room : List ℕ)
+      → Decides (1 ∷ 2 ∷ 3 ∷ 4 ∷ 6 ∷ 7 ∷ []) (affineTests n on room) (λ r. r .refusal) affineOthers
+      (affineAccepted n on) (affineAnswer n on room)
+      (lent (affineProjection n on) room (affineRoom n on room) ∷ [])
   -- The two calls that take on points alone have no free points, so that their test of number 4 never applies.
   pub never-shared : (on : List ℕ) → shared on [] ≡ false
-  pub write-form : (n : ℕ) (on free lent : List ℕ)
-      → Decides (1 ∷ 2 ∷ 3 ∷ 4 ∷ 5 ∷ 7 ∷ []) (writeTests n on free lent) (writeAnswer n on free lent .refusal)
-      (writeAccepted n on free) writeRefused (writeAnswer n on free lent)
-      (room (formBytes n on free) lent (writeAfter n on free lent) ∷ [])
   -- A listing that runs short of room stops and is not refused: there is no 7.
-  pub list-primes : (c : Call)
-      → Decides (1 ∷ 2 ∷ 3 ∷ 4 ∷ 5 ∷ 9 ∷ []) (listingTests c) (answer c .refusal)
-      (accepting (c .place) (listing c)) refusing (answer c)
-      (room (recordsOf (listing c .primes)) (c .room) (listingRoom c) ∷ [])
-  pub form-points : (bytes lent : List ℕ)
-      → Decides (8 ∷ 7 ∷ []) (pointsTests bytes lent) (pointsAnswer bytes lent .refusal)
-      (acceptedPoints bytes) refusedPoints (pointsAnswer bytes lent)
-      (room (pointsRead bytes) lent (pointsAfter bytes lent) ∷ [])
-  pub form-rewrite : (bytes lent : List ℕ)
-      → Decides (8 ∷ 7 ∷ []) (rewriteTests bytes lent) (rewriteAnswer bytes lent .refusal)
-      (acceptedRewrite bytes) refusedRewrite (rewriteAnswer bytes lent)
-      (room (rewritten bytes) lent (rewriteAfter bytes lent) ∷ [])
-  -- The printed report: a table refused prints `refused N` and nothing else, and where only the form is refused, 5 stands in the text.
-  pub report : (bytes : List ℕ)
-      → Decides (8 ∷ 1 ∷ 2 ∷ 3 ∷ []) (storedTests bytes) (storedFault bytes)
-      (tableText (storedVariables bytes) (storedOn bytes) (storedFree bytes)) refusedLine (reportText bytes) []
-  -- The call that gives it is refused only where the text is longer than the room.
-  pub write-report : (bytes lent : List ℕ)
-      → Decides (7 ∷ []) (reportTests bytes lent) (reportAnswer bytes lent .refusal)
-      (reportAccepted bytes) reportRefused (reportAnswer bytes lent)
-      (room (reportText bytes) lent (reportAfter bytes lent) ∷ [])
+  pub list-primes : (n : ℕ) (on free : List ℕ) (place allowance : ℕ) (room : List ℕ)
+      → Decides (1 ∷ 2 ∷ 3 ∷ 4 ∷ 5 ∷ 9 ∷ []) (listingTests (callOf n on free place allowance room)) (λ r. r .refusal) listingOthers
+      (accepting place (listing (callOf n on free place allowance room))) (answer (callOf n on free place allowance room))
+      (lent (recordsOf (listing (callOf n on free place allowance room) .primes)) room (listingRoom (callOf n on free place allowance room)) ∷ [])
+  pub write-form : (n : ℕ) (on free room : List ℕ)
+      → Decides (1 ∷ 2 ∷ 3 ∷ 4 ∷ 5 ∷ 7 ∷ []) (writeTests n on free room) (λ r. r .refusal) writeOthers
+      (writeAccepted n on free) (writeAnswer n on free room)
+      (lent (formBytes n on free) room (writeAfter n on free room) ∷ [])
+  pub form-points : (bytes room : List ℕ)
+      → Decides (8 ∷ 7 ∷ []) (pointsTests bytes room) (λ r. r .refusal) pointsOthers
+      (acceptedPoints bytes) (pointsAnswer bytes room)
+      (lent (pointsRead bytes) room (pointsAfter bytes room) ∷ [])
+  pub form-rewrite : (bytes room : List ℕ)
+      → Decides (8 ∷ 7 ∷ []) (rewriteTests bytes room) (λ r. r .refusal) rewriteOthers
+      (acceptedRewrite bytes) (rewriteAnswer bytes room)
+      (lent (rewritten bytes) room (rewriteAfter bytes room) ∷ [])
+  -- The call that gives the report is refused only where the text is longer than the room: a refused table has a text too, which is `printed`.
+  pub report : (bytes room : List ℕ)
+      → Decides (7 ∷ []) (reportTests bytes room) (λ r. r .refusal) reportOthers
+      (reportAccepted bytes) (reportAnswer bytes room)
+      (lent (reportText bytes) room (reportAfter bytes room) ∷ [])
+  pub printed : (bytes : List ℕ) → Printed bytes
