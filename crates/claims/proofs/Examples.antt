@@ -1,62 +1,77 @@
--- Document 01, "Table of proved examples": P1 to P9 in one table under one statement, computed from the definitions that the public contracts use.
+-- Document 01, "Table of proved examples": P1 to P9 in one table under one statement, computed from the answers and rooms that the contracts of the
+-- public calls name.
 use mathlib.Core.Path.{_≡_, refl}
 use mathlib.Core.List.{List, [], _∷_, map, flatMap}
 use Prim.Native.Nat.{ℕ}
+use lib.ListN.{take, replicate}
 use Rattle.gf2.specs.Bits.{bit, halvings, lead}
 use Rattle.gf2.specs.Finite.{holds, all, select}
 use Rattle.gf2.specs.Parity.{oddIn, odd}
-use Rattle.gf2.specs.Basis.{clear, reduce, place, join, insert, inserts, reduces, irreducible, reducedBasis, isLead, placesAt, canonicalPlaces, variablesAt}
+use Rattle.gf2.specs.Basis.{clear, reduce, place, join, insert, inserts, reduces, irreducible, reducedBasis, isLead, placesAt}
+use Rattle.basis.specs.Short.{listed}
+use Rattle.basis.specs.Reduced.{vectorsOf}
 use Rattle.table.specs.Refusal.{firstFault}
 use Rattle.table.specs.Table.{tableTests, badCount, outside, notAbove, unordered, shared}
 use Rattle.space.specs.Closure.{closed, linearSpace, degree}
-use Rattle.space.specs.Completion.{allOn, k0, k1, completed}
+use Rattle.space.specs.Completion.{allOn, completed, completedPoints}
 use Rattle.space.specs.Restriction.{equation, equations, number, project, clean, restriction}
 use Rattle.space.specs.Affine.{directions, leastPoint, projection}
 use Rattle.form.specs.Encoding.{encodeFactors, encodeProducts, encodeForm}
 use Rattle.cubes.specs.Lists.{keep}
-use Rattle.cubes.specs.Cubes.{Candidate, candidate, spans, pointsOf}
+use Rattle.cubes.specs.Cubes.{spans, pointsOf}
 use Rattle.cubes.specs.Candidates.{bases, candidatesOf, candidatesFrom, candidates}
 use Rattle.cubes.specs.Primes.{everyPoint, somePoint, cannotGrow, isPrime}
 use Rattle.cubes.specs.Records.{recordOf, recordsOf}
-use Rattle.cubes.specs.Listing.{Table, primeOf, listingFault, passage, listing, answer, listingRoom}
+use Rattle.cubes.specs.Listing.{listingFault, passage, listing, answer, listingRoom}
+use Rattle.cubes.specs.Calls.{handedOver}
+use Rattle.listing.specs.Answers.{callOf}
 use Rattle.cover.specs.CanonicalProduct.{placeFactor, canonicalProduct}
 use Rattle.cover.specs.Substitution.{substituteMask, substituteFactor, substituteProduct}
 use Rattle.cover.specs.Choice.{primesOf, covered, firstHolding, takenFor, takenThrough, chosen}
-use Rattle.cover.specs.WrittenForm.{writtenProduct, formOf, writtenForm}
+use Rattle.cover.specs.WrittenForm.{writtenProduct, formOf, writtenForm, formSizeFault}
+use Rattle.writing.specs.Writing.{formBytes, writeAnswer, writeAfter}
+use Rattle.glospruma.specs.Spaces.{completeAnswer, completeRoom, analyseAnswer, analyseRoom}
+use Rattle.glospruma.specs.Affine.{affineAnswer, affineRoom}
 
--- What is asked of a table of n variables with these on points and these free points: k0 and k1; of the completed function its degree, basis,
--- canonical variables, equations and restriction; the bytes of its form; the smallest affine space; the primes; a listing call at a place.
+-- ---- what the calls are asked, and what they reply
+
+-- Rooms that are longer than every answer below.
+abbrev pub pointRoom : List ℕ
+pointRoom = replicate 16 0
+
+abbrev pub byteRoom : List ℕ
+byteRoom = replicate 64 0
+
+-- A call of each kind, on n variables with these on points and these free points; a listing call also with a place. Its allowance is 99 candidates.
 pub data Question : Type 0 where
-  degrees : (n : ℕ) (on free : List ℕ) → Question
-  analysis : (n : ℕ) (on free : List ℕ) → Question
-  written : (n : ℕ) (on free : List ℕ) → Question
+  complete : (n : ℕ) (on free : List ℕ) → Question
+  analyse : (n : ℕ) (on free : List ℕ) → Question
   affine : (n : ℕ) (on : List ℕ) → Question
-  primes : (n : ℕ) (on free : List ℕ) → Question
-  listed : (n : ℕ) (on free : List ℕ) (place : ℕ) → Question
+  write-form : (n : ℕ) (on free : List ℕ) → Question
+  list-primes : (n : ℕ) (on free : List ℕ) (place : ℕ) → Question
 
+-- The numbers returned and the list handed over: as much of the front of the room as was counted.
 pub data Reply : Type 0 where
-  numbers : List ℕ → Reply
-  analysed : (degree : ℕ) (basis canonical masks restriction : List ℕ) → Reply
-  bytes : List ℕ → Reply
-  space : (least : ℕ) (basis projected : List ℕ) → Reply
-  cubes : List Candidate → Reply
-
--- The table as the listing takes it.
-pub tableOf : ℕ → List ℕ → List ℕ → Table
-tableOf n on free = record { variables = n; on = on; free = free }
+  completion : (refusal degree k0 k1 : ℕ) (points : List ℕ) → Reply
+  analysis : (refusal degree : ℕ) (basis canonical equations restriction : List ℕ) → Reply
+  space : (refusal least dimension : ℕ) (basis projection : List ℕ) → Reply
+  form : (refusal products : ℕ) (bytes : List ℕ) → Reply
+  records : (refusal next passed count : ℕ) (bytes : List ℕ) → Reply
 
 pub reply : Question → Reply
-reply (degrees n on free) = numbers (k0 n on ∷ k1 n on free ∷ [])
-reply (analysis n on free) =
-    let f = completed n on free in
-    let bs = linearSpace n f in
-    analysed (degree n f) bs (variablesAt n (canonicalPlaces n bs)) (equations n bs) (restriction n bs f)
-reply (written n on free) = bytes (encodeForm (record { variables = n; products = writtenForm n on free }))
-reply (affine n on) = space (leastPoint on) (directions on) (projection n (directions on) on)
-reply (primes n on free) = cubes (keep (primeOf (tableOf n on free)) (candidates n))
-reply (listed n on free place) =
-    let given = answer (record { table = tableOf n on free; place = place; allowance = 99; room = [] }) in
-    numbers (given .refusal ∷ given .next ∷ given .passed ∷ given .records ∷ [])
+reply (complete n on free) =
+    let r = completeAnswer n on free pointRoom in completion (r .refusal) (r .degree) (r .k0) (r .k1) (take (r .count) (completeRoom n on free pointRoom))
+reply (analyse n on free) =
+    let r = analyseAnswer n on free pointRoom in
+    analysis (r .refusal) (r .degree) (vectorsOf (r .basis)) (listed (r .canonical)) (listed (r .equations)) (take (r .count) (analyseRoom n on free pointRoom))
+reply (affine n on) =
+    let r = affineAnswer n on pointRoom in space (r .refusal) (r .least) (r .dimension) (vectorsOf (r .basis)) (take (r .count) (affineRoom n on pointRoom))
+reply (write-form n on free) =
+    let r = writeAnswer n on free byteRoom in form (r .refusal) (r .products) (take (r .length) (writeAfter n on free byteRoom))
+reply (list-primes n on free place) =
+    let c = callOf n on free place 99 byteRoom in
+    let r = answer c in
+    records (r .refusal) (r .next) (r .passed) (r .records) (handedOver c)
 
 pub record Example : Type 0 where
   pub asked : Question
@@ -65,33 +80,41 @@ pub record Example : Type 0 where
 pub example : Question → Reply → Example
 example asked expected = record { asked = asked; expected = expected }
 
--- The on points of P5.
+-- ---- the table
+
+-- The on points of P5, and the bytes of its form.
 pub five : List ℕ
 five = 4 ∷ 5 ∷ 6 ∷ 7 ∷ 9 ∷ 10 ∷ 12 ∷ 13 ∷ 14 ∷ 15 ∷ []
+
+pub fiveForm : List ℕ
+fiveForm = 0x4E ∷ 0x04 ∷ 0x50 ∷ 0x58 ∷ 0x01 ∷ 0x04 ∷ 0x00 ∷ 0x50 ∷ 0x58 ∷ 0x01 ∷ 0x0C ∷ 0x00 ∷ 0x58 ∷ 0x00 ∷ 0x0B ∷ 0x00 ∷ 0x45 ∷ 0x02 ∷ 0x00 ∷ []
+
+-- The records of P6: degree, least point and the basis vectors, unused bytes 0.
+pub sixRecords : List ℕ
+sixRecords =
+    2 ∷ 2 ∷ 1 ∷ 4 ∷ 0 ∷ 0 ∷ 0 ∷ 0 ∷ (1 ∷ 2 ∷ 7 ∷ 0 ∷ 0 ∷ 0 ∷ 0 ∷ 0 ∷ (1 ∷ 3 ∷ 6 ∷ 0 ∷ 0 ∷ 0 ∷ 0 ∷ 0 ∷ (1 ∷ 5 ∷ 2 ∷ 0 ∷ 0 ∷ 0 ∷ 0 ∷ 0 ∷ (1 ∷ 5 ∷ 3 ∷ 0 ∷ 0 ∷ 0 ∷ 0 ∷ 0 ∷ []))))
 
 -- P1 to P9, in order.
 pub examples : List Example
 examples =
-    example (analysis 1 [] []) (analysed 1 (1 ∷ []) (1 ∷ []) [] [])
-    ∷ example (written 1 [] []) (bytes (0x4E ∷ 0x01 ∷ 0x45 ∷ 0x00 ∷ 0x00 ∷ []))
-    ∷ example (analysis 1 (0 ∷ []) []) (analysed 0 [] [] (1 ∷ []) (0 ∷ []))
-    ∷ example (analysis 1 (0 ∷ 1 ∷ []) []) (analysed 1 (1 ∷ []) (1 ∷ []) [] (0 ∷ []))
-    ∷ example (written 1 (0 ∷ 1 ∷ []) []) (bytes (0x4E ∷ 0x01 ∷ 0x50 ∷ 0x45 ∷ 0x01 ∷ 0x00 ∷ []))
-    ∷ example (analysis 3 (1 ∷ 2 ∷ 4 ∷ 7 ∷ []) []) (analysed 2 (3 ∷ 5 ∷ []) (1 ∷ 2 ∷ []) (7 ∷ []) (1 ∷ []))
-    ∷ example (primes 3 (1 ∷ 2 ∷ 4 ∷ 7 ∷ []) []) (cubes (candidate 1 (3 ∷ 5 ∷ []) ∷ []))
-    ∷ example (analysis 4 five []) (analysed 1 (3 ∷ []) (3 ∷ []) (8 ∷ 4 ∷ 3 ∷ []) (2 ∷ 3 ∷ 5 ∷ 6 ∷ 7 ∷ []))
-    ∷ example (written 4 five [])
-    (bytes (0x4E ∷ 0x04 ∷ 0x50 ∷ 0x58 ∷ 0x01 ∷ 0x04 ∷ 0x00 ∷ 0x50 ∷ 0x58 ∷ 0x01 ∷ 0x0C ∷ 0x00 ∷ 0x58 ∷ 0x00 ∷ 0x0B ∷ 0x00 ∷ 0x45 ∷ 0x02 ∷ 0x00 ∷ []))
-    ∷ example (primes 3 (2 ∷ 3 ∷ 5 ∷ 6 ∷ 7 ∷ []) [])
-    (cubes (candidate 2 (1 ∷ 4 ∷ []) ∷ candidate 2 (7 ∷ []) ∷ candidate 3 (6 ∷ []) ∷ candidate 5 (2 ∷ []) ∷ candidate 5 (3 ∷ []) ∷ []))
-    ∷ example (affine 4 (2 ∷ 4 ∷ 6 ∷ 11 ∷ 13 ∷ [])) (space 0 (2 ∷ 4 ∷ 9 ∷ []) (1 ∷ 2 ∷ 3 ∷ 5 ∷ 6 ∷ []))
-    ∷ example (degrees 2 (0 ∷ []) (1 ∷ 2 ∷ [])) (numbers (0 ∷ 0 ∷ []))
-    ∷ example (primes 2 [] (0 ∷ [])) (cubes [])
-    ∷ example (listed 2 [] (0 ∷ []) 11) (numbers (0 ∷ 11 ∷ 0 ∷ 0 ∷ []))
-    ∷ example (listed 2 [] (0 ∷ []) 12) (numbers (9 ∷ 0 ∷ 0 ∷ 0 ∷ []))
+    example (analyse 1 [] []) (analysis 0 1 (1 ∷ []) (1 ∷ []) [] [])
+    ∷ example (write-form 1 [] []) (form 0 0 (0x4E ∷ 0x01 ∷ 0x45 ∷ 0x00 ∷ 0x00 ∷ []))
+    ∷ example (analyse 1 (0 ∷ []) []) (analysis 0 0 [] [] (1 ∷ []) (0 ∷ []))
+    ∷ example (analyse 1 (0 ∷ 1 ∷ []) []) (analysis 0 1 (1 ∷ []) (1 ∷ []) [] (0 ∷ []))
+    ∷ example (write-form 1 (0 ∷ 1 ∷ []) []) (form 0 1 (0x4E ∷ 0x01 ∷ 0x50 ∷ 0x45 ∷ 0x01 ∷ 0x00 ∷ []))
+    ∷ example (analyse 3 (1 ∷ 2 ∷ 4 ∷ 7 ∷ []) []) (analysis 0 2 (3 ∷ 5 ∷ []) (1 ∷ 2 ∷ []) (7 ∷ []) (1 ∷ []))
+    ∷ example (list-primes 3 (1 ∷ 2 ∷ 4 ∷ 7 ∷ []) [] 0) (records 0 51 51 1 (2 ∷ 1 ∷ 3 ∷ 5 ∷ 0 ∷ 0 ∷ 0 ∷ 0 ∷ []))
+    ∷ example (analyse 4 five []) (analysis 0 1 (3 ∷ []) (3 ∷ []) (8 ∷ 4 ∷ 3 ∷ []) (2 ∷ 3 ∷ 5 ∷ 6 ∷ 7 ∷ []))
+    ∷ example (write-form 4 five []) (form 0 2 fiveForm)
+    ∷ example (list-primes 3 (2 ∷ 3 ∷ 5 ∷ 6 ∷ 7 ∷ []) [] 0) (records 0 51 51 5 sixRecords)
+    ∷ example (affine 4 (2 ∷ 4 ∷ 6 ∷ 11 ∷ 13 ∷ [])) (space 0 0 3 (2 ∷ 4 ∷ 9 ∷ []) (1 ∷ 2 ∷ 3 ∷ 5 ∷ 6 ∷ []))
+    ∷ example (complete 2 (0 ∷ []) (1 ∷ 2 ∷ [])) (completion 0 0 0 0 (0 ∷ []))
+    ∷ example (list-primes 2 [] (0 ∷ []) 0) (records 0 11 11 0 [])
+    ∷ example (list-primes 2 [] (0 ∷ []) 11) (records 0 11 0 0 [])
+    ∷ example (list-primes 2 [] (0 ∷ []) 12) (records 9 0 0 0 [])
     ∷ []
 
 -- Each reply is the one expected.
 pub computed : map (λ e. reply (e .asked)) examples ≡ map (λ e. e .expected) examples
-unfolding examples example five reply tableOf holds all select bit halvings lead oddIn odd clear reduce place join insert inserts reduces irreducible reducedBasis isLead placesAt firstFault tableTests badCount outside notAbove unordered shared closed linearSpace degree allOn completed equation equations number project clean restriction directions leastPoint projection encodeFactors encodeProducts encodeForm flatMap keep spans pointsOf bases candidatesOf candidatesFrom candidates everyPoint somePoint cannotGrow isPrime recordOf recordsOf listingFault passage listing answer listingRoom placeFactor canonicalProduct substituteMask substituteFactor substituteProduct primesOf covered firstHolding takenFor takenThrough chosen writtenProduct formOf writtenForm
+unfolding examples example five fiveForm sixRecords reply handedOver writeAnswer writeAfter formBytes formSizeFault completedPoints holds all select bit halvings lead oddIn odd clear reduce place join insert inserts reduces irreducible reducedBasis isLead placesAt firstFault tableTests badCount outside notAbove unordered shared closed linearSpace degree allOn completed equation equations number project clean restriction directions leastPoint projection encodeFactors encodeProducts encodeForm flatMap keep spans pointsOf bases candidatesOf candidatesFrom candidates everyPoint somePoint cannotGrow isPrime recordOf recordsOf listingFault passage listing answer listingRoom placeFactor canonicalProduct substituteMask substituteFactor substituteProduct primesOf covered firstHolding takenFor takenThrough chosen writtenProduct formOf writtenForm
 computed = refl

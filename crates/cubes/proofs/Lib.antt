@@ -2,7 +2,7 @@
 -- The laws that other crates cite first: `cube-candidate`, `same-candidate`, `candidate-size` (Cubes), `basis-is`, `candidate-is`,
 -- `candidates-listing`, `candidates-only` (Candidates), `every-point`, `some-point`, `prime-is`, `prime-alone`, `one-prime` (Primes),
 -- `every-step`, `some-every`, `every-ext`, `prime-count` (Spaces), `least-count`, `candidates-total` (Counts), `record-one`, `passage-rule`, `rule-only`,
--- `accepted-is` (Listing), `demand3` (Calls).
+-- `accepted-is` (Listing), `call-obeyed`, `call-refused`, `every-prime` (Calls).
 pub mod Lists
 pub mod Cubes
 pub mod Candidates
