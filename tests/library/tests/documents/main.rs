@@ -2,7 +2,7 @@
 //! definitions, functions and must-fail edits are defined in the crate or file
 //! named beside them (`proved`, `specification`), names in running text somewhere
 //! (`prose`), calls and refusal numbers are those of the code and of the header
-//! (`calls`), every crate has its row (`crates`), and files exist (`files`). So do
+//! (`calls`), the contracts of the calls are those of demand 1 (`demand`), every crate has its row (`crates`), and files exist (`files`). So do
 //! the theorems that comments of the crates quote (`comments`).
 //!
 //! Every check returns what it finds wrong, so that it can be tried on a document
@@ -14,6 +14,7 @@ mod tables;
 mod calls;
 mod comments;
 mod crates;
+mod demand;
 mod files;
 mod prose;
 mod proved;
