@@ -21,8 +21,8 @@ use Rattle.writing.specs.Writing.{writeRefused, writeAnswer, writeAfter}
 use Rattle.table_report.specs.Text.{refusedLine}
 use Rattle.report.specs.Report.{reportText}
 use Rattle.report.specs.Answer.{reportRefused, reportAnswer, reportAfter}
-use Rattle.glospruma.specs.Spaces.{linearSpaceRefused, completeRefused, analyseRefused}
-use Rattle.glospruma.specs.Affine.{affineRefused}
+use Rattle.analysis.specs.Spaces.{linearSpaceRefused, completeRefused, analyseRefused}
+use Rattle.analysis.specs.Affine.{affineRefused}
 use Rattle.claims.specs.Demand1.{refusalOrder, Room, AllZero, Decides, Printed, Demand1}
 
 -- ---- any call that decides by its tests

@@ -30,8 +30,8 @@ use Rattle.cover.specs.Substitution.{substituteMask, substituteFactor, substitu
 use Rattle.cover.specs.Choice.{primesOf, covered, firstHolding, takenFor, takenThrough, chosen}
 use Rattle.cover.specs.WrittenForm.{writtenProduct, formOf, writtenForm, formSizeFault}
 use Rattle.writing.specs.Writing.{formBytes, writeAnswer, writeAfter}
-use Rattle.glospruma.specs.Spaces.{completeAnswer, completeRoom, analyseAnswer, analyseRoom}
-use Rattle.glospruma.specs.Affine.{affineAnswer, affineRoom}
+use Rattle.analysis.specs.Spaces.{completeAnswer, completeRoom, analyseAnswer, analyseRoom}
+use Rattle.analysis.specs.Affine.{affineAnswer, affineRoom}
 
 -- ---- what the calls are asked, and what they reply
 

@@ -26,9 +26,9 @@ use Rattle.cubes.proofs.Lists.{mem-append}
 use Rattle.cover.specs.WrittenForm.{formSizeFault}
 use Rattle.writing.specs.declared.FormWritten.{FormWritten}
 use Rattle.writing.specs.Writing.{formBytes, formTests, writeAccepted, writeAnswer, writeAfter}
-use Rattle.glospruma.specs.declared.Completion.{Completion}
-use Rattle.glospruma.specs.declared.Analysis.{Analysis}
-use Rattle.glospruma.specs.Spaces.{linearSpaceTests, linearSpaceAccepted, linearSpaceRefused, linearSpaceAnswer, completedRestriction, completeAccepted, completeAnswer, completeRoom, analyseAccepted, analyseAnswer, analyseRoom}
+use Rattle.analysis.specs.declared.Completion.{Completion}
+use Rattle.analysis.specs.declared.Analysis.{Analysis}
+use Rattle.analysis.specs.Spaces.{linearSpaceTests, linearSpaceAccepted, linearSpaceRefused, linearSpaceAnswer, completedRestriction, completeAccepted, completeAnswer, completeRoom, analyseAccepted, analyseAnswer, analyseRoom}
 use Rattle.claims.specs.Demand1.{lent, Decides}
 use Rattle.claims.proofs.Demand1.{demand1}
 

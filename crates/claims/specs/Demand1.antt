@@ -32,12 +32,12 @@ use Rattle.table_report.specs.Text.{refusedLine, tableText}
 use Rattle.report.specs.Report.{reportText}
 use Rattle.report.specs.declared.ReportWritten.{ReportWritten}
 use Rattle.report.specs.Answer.{reportTests, reportAccepted, reportAnswer, reportAfter}
-use Rattle.glospruma.specs.declared.LinearSpace.{LinearSpace}
-use Rattle.glospruma.specs.declared.Completion.{Completion}
-use Rattle.glospruma.specs.declared.Analysis.{Analysis}
-use Rattle.glospruma.specs.declared.Affine.{Affine}
-use Rattle.glospruma.specs.Spaces.{linearSpaceTests, linearSpaceAccepted, linearSpaceAnswer, completeTests, completeAccepted, completeAnswer, completeRoom, completedRestriction, analyseTests, analyseAccepted, analyseAnswer, analyseRoom}
-use Rattle.glospruma.specs.Affine.{affineProjection, affineTests, affineAccepted, affineAnswer, affineRoom}
+use Rattle.analysis.specs.declared.LinearSpace.{LinearSpace}
+use Rattle.analysis.specs.declared.Completion.{Completion}
+use Rattle.analysis.specs.declared.Analysis.{Analysis}
+use Rattle.analysis.specs.declared.AffineSpace.{AffineSpace}
+use Rattle.analysis.specs.Spaces.{linearSpaceTests, linearSpaceAccepted, linearSpaceAnswer, completeTests, completeAccepted, completeAnswer, completeRoom, completedRestriction, analyseTests, analyseAccepted, analyseAnswer, analyseRoom}
+use Rattle.analysis.specs.Affine.{affineProjection, affineTests, affineAccepted, affineAnswer, affineRoom}
 
 -- ---- one call
 
@@ -91,7 +91,7 @@ completeOthers r = r .count ∷ r .degree ∷ r .k0 ∷ r .k1 ∷ []
 abbrev pub analyseOthers : Analysis → List ℕ
 analyseOthers r = r .degree ∷ r .count ∷ (basisNumbers (r .basis) ++ (shortNumbers (r .canonical) ++ shortNumbers (r .equations)))
 
-abbrev pub affineOthers : Affine → List ℕ
+abbrev pub affineOthers : AffineSpace → List ℕ
 affineOthers r = r .least ∷ r .dimension ∷ r .count ∷ basisNumbers (r .basis)
 
 abbrev pub writeOthers : FormWritten → List ℕ

@@ -26,10 +26,10 @@ use Rattle.cubes.specs.Records.{maxListed}
 use Rattle.cover.specs.WrittenForm.{writtenForm}
 use Rattle.writing.specs.declared.FormWritten.{FormWritten}
 use Rattle.writing.specs.Writing.{writeAnswer, writeAfter}
-use Rattle.glospruma.specs.declared.LinearSpace.{LinearSpace}
-use Rattle.glospruma.specs.declared.Completion.{Completion}
-use Rattle.glospruma.specs.declared.Analysis.{Analysis}
-use Rattle.glospruma.specs.Spaces.{linearSpaceAnswer, completeAnswer, completeRoom, analyseAnswer, analyseRoom}
+use Rattle.analysis.specs.declared.LinearSpace.{LinearSpace}
+use Rattle.analysis.specs.declared.Completion.{Completion}
+use Rattle.analysis.specs.declared.Analysis.{Analysis}
+use Rattle.analysis.specs.Spaces.{linearSpaceAnswer, completeAnswer, completeRoom, analyseAnswer, analyseRoom}
 
 -- ---- the calls, and what they report
 

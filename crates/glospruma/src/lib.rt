@@ -1,6 +1,6 @@
-// The public calls. Each takes numbers and lent slices, asks nothing of its caller, and says in its contract what it returns and what every
-// lent slice holds afterwards, on all inputs: see specs/. A refused call returns the number of document 01, "Refusal numbers", with all
-// other numbers 0 and all lent memory as before. All calls are exported to C and Rust. Read next: specs/Spaces.antt.
+// The public calls, exported to C and Rust, and nothing else: each hands its arguments to the crate that does the work. A call takes numbers and lent
+// slices, asks nothing of its caller, and says in its contract what it returns and what every lent slice holds afterwards, on all inputs. A refused
+// call returns the number of document 01, "Refusal numbers", with all other numbers 0 and all lent memory as before. Read next: crate `claims`.
 ghost use mathlib.Core.Path.{_≡_};
 ghost use lib.ListN.{length};
 ghost use Rattle.stored.specs.Reading.{readAnswer, onAfter, freeAfter};
@@ -9,57 +9,18 @@ ghost use Rattle.cubes.specs.Listing.{answer, listingRoom};
 ghost use Rattle.listing.specs.Answers.{callOf, numbersOf};
 ghost use Rattle.writing.specs.Writing.{writeAnswer, writeAfter};
 ghost use Rattle.report.specs.Answer.{reportAnswer, reportAfter};
-ghost use Rattle.glospruma.specs.Spaces.{linearSpaceAnswer, completeRefused, completeAnswer, completeRoom, analyseRefused, analyseAnswer, analyseRoom};
-ghost use Rattle.glospruma.specs.Affine.{affineRefused, affineAnswer, affineRoom};
-use basis::Basis;
-use basis::ShortList;
+ghost use Rattle.analysis.specs.Spaces.{linearSpaceAnswer, completeAnswer, completeRoom, analyseAnswer, analyseRoom};
+ghost use Rattle.analysis.specs.Affine.{affineAnswer, affineRoom};
+use analysis::AffineSpace;
+use analysis::Analysis;
+use analysis::Completion;
+use analysis::LinearSpace;
 use form::FormPoints;
 use form::FormRewrite;
 use listing::Listed;
 use report::ReportWritten;
 use stored::TableRead;
-use table::AFFINE_FAULT;
-use table::ROOM_FAULT;
 use writing::FormWritten;
-
-// The linear space of a complete function: its degree and its reduced basis.
-#[repr(C)]
-pub struct LinearSpace {
-    pub refusal: u8,
-    pub degree: usize,
-    pub basis: Basis,
-}
-
-// The completed function: how many points, its degree, and the degrees with all free points off and with all of them on.
-#[repr(C)]
-pub struct Completion {
-    pub refusal: u8,
-    pub count: usize,
-    pub degree: usize,
-    pub k0: usize,
-    pub k1: usize,
-}
-
-// The completed function's linear space, canonical variables by index, equation masks, and how many points its restriction has.
-#[repr(C)]
-pub struct Analysis {
-    pub refusal: u8,
-    pub degree: usize,
-    pub basis: Basis,
-    pub canonical: ShortList,
-    pub equations: ShortList,
-    pub count: usize,
-}
-
-// The smallest affine space of the on points: its least point, its dimension and basis, and how many points are projected.
-#[repr(C)]
-pub struct Affine {
-    pub refusal: u8,
-    pub least: u16,
-    pub dimension: usize,
-    pub basis: Basis,
-    pub count: usize,
-}
 
 // A stored table read into two rooms, one for its on points and one for its free points. Refusals 8, then 1, 2, 3, then 7 for either room.
 #[no_mangle]
@@ -76,34 +37,7 @@ pub extern "C" fn glospruma_read_table(bytes: &[u8], on: &mut [u16], free: &mut 
 pub extern "C" fn glospruma_linear_space(n: usize, on: &[u16]) -> LinearSpace
     ensures { λ r. ⌜ r ≡ linearSpaceAnswer n (now (on .entry)) ⌝ }
 {
-    let fault = table::table_fault(n, on, &on[0..0]);
-    if fault != 0 {
-        return LinearSpace {
-            refusal: fault,
-            degree: 0,
-            basis: Basis::EMPTY,
-        };
-    }
-    let flags = table::flags_of(on);
-    let basis = space::linear_space(&flags, n);
-    LinearSpace {
-        refusal: 0,
-        degree: basis.len,
-        basis,
-    }
-}
-
-// A refusal: all other numbers are 0.
-fn no_completion(refusal: u8) -> Completion
-    ensures { λ r. ⌜ r ≡ completeRefused refusal ⌝ }
-{
-    Completion {
-        refusal,
-        count: 0,
-        degree: 0,
-        k0: 0,
-        k1: 0,
-    }
+    analysis::linear_space(n, on)
 }
 
 // The completed function's points, rising, at the front of the room. Refusals 1, 2, 3, 4, then 7.
@@ -117,39 +51,7 @@ pub extern "C" fn glospruma_complete(
     ensures { λ r. ⌜ r ≡ completeAnswer n (now (on .entry)) (now (free .entry)) (now (room .entry)) ⌝ }
     ensures { λ r. ⌜ now (room .exit) ≡ completeRoom n (now (on .entry)) (now (free .entry)) (now (room .entry)) ⌝ }
 {
-    let fault = table::table_fault(n, on, free);
-    if fault != 0 {
-        return no_completion(fault);
-    }
-    let completed = space::complete(n, on, free);
-    let flags = completed.flags;
-    let basis = completed.basis;
-    let count = projection::count_kept(&flags, 0, n);
-    if room.len() < count {
-        return no_completion(ROOM_FAULT);
-    }
-    projection::write_kept(&flags, 0, n, &mut *room);
-    Completion {
-        refusal: 0,
-        count,
-        degree: basis.len,
-        k0: completed.k0,
-        k1: completed.k1,
-    }
-}
-
-// A refusal: all other numbers are 0.
-fn no_analysis(refusal: u8) -> Analysis
-    ensures { λ r. ⌜ r ≡ analyseRefused refusal ⌝ }
-{
-    Analysis {
-        refusal,
-        degree: 0,
-        basis: Basis::EMPTY,
-        canonical: ShortList::EMPTY,
-        equations: ShortList::EMPTY,
-        count: 0,
-    }
+    analysis::complete(n, on, free, &mut *room)
 }
 
 // The linear space of the completed function, and the points of its restriction, rising, at the front of the room. Refusals 1, 2, 3, 4, then 7.
@@ -163,71 +65,16 @@ pub extern "C" fn glospruma_analyse(
     ensures { λ r. ⌜ r ≡ analyseAnswer n (now (on .entry)) (now (free .entry)) (now (room .entry)) ⌝ }
     ensures { λ r. ⌜ now (room .exit) ≡ analyseRoom n (now (on .entry)) (now (free .entry)) (now (room .entry)) ⌝ }
 {
-    let fault = table::table_fault(n, on, free);
-    if fault != 0 {
-        return no_analysis(fault);
-    }
-    let completed = space::complete(n, on, free);
-    let flags = completed.flags;
-    let basis = completed.basis;
-    let leads = basis.leads();
-    let count = projection::count_kept(&flags, leads, n);
-    if room.len() < count {
-        return no_analysis(ROOM_FAULT);
-    }
-    projection::write_kept(&flags, leads, n, &mut *room);
-    let canonical = basis.canonical(n);
-    let equations = projection::equations(basis, n);
-    Analysis {
-        refusal: 0,
-        degree: basis.len,
-        basis,
-        canonical,
-        equations,
-        count,
-    }
-}
-
-// A refusal: all other numbers are 0.
-fn no_affine(refusal: u8) -> Affine
-    ensures { λ r. ⌜ r ≡ affineRefused refusal ⌝ }
-{
-    Affine {
-        refusal,
-        least: 0,
-        dimension: 0,
-        basis: Basis::EMPTY,
-        count: 0,
-    }
+    analysis::analyse(n, on, free, &mut *room)
 }
 
 // The smallest affine space that holds the on points, and their projection at the front of the room. Refusals 1, 2, 3, 6, then 7.
 #[no_mangle]
-pub extern "C" fn glospruma_affine(n: usize, on: &[u16], room: &mut [u16]) -> Affine
+pub extern "C" fn glospruma_affine(n: usize, on: &[u16], room: &mut [u16]) -> AffineSpace
     ensures { λ r. ⌜ r ≡ affineAnswer n (now (on .entry)) (now (room .entry)) ⌝ }
     ensures { λ r. ⌜ now (room .exit) ≡ affineRoom n (now (on .entry)) (now (room .entry)) ⌝ }
 {
-    let fault = table::table_fault(n, on, &on[0..0]);
-    if fault != 0 {
-        return no_affine(fault);
-    }
-    let count = on.len();
-    if count == 0 {
-        return no_affine(AFFINE_FAULT);
-    }
-    if room.len() < count {
-        return no_affine(ROOM_FAULT);
-    }
-    let basis = projection::directions(on);
-    let least = basis.reduce(on[0]);
-    projection::write_projection(on, basis.leads(), n, &mut *room);
-    Affine {
-        refusal: 0,
-        least,
-        dimension: basis.len,
-        basis,
-        count,
-    }
+    analysis::affine(n, on, &mut *room)
 }
 
 // The points of a form, rising, at the front of the room. Refusals 8, then 7.

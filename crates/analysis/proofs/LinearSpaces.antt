@@ -17,8 +17,8 @@ use Rattle.table.proofs.Flags.{flags-at}
 use Rattle.space.specs.Closure.{closed, linearSpace, degree}
 use Rattle.space.specs.Witness.{flagged}
 use Rattle.space.proofs.Closure.{linear-ext}
-use Rattle.glospruma.specs.declared.LinearSpace.{LinearSpace}
-use Rattle.glospruma.specs.Spaces.{linearSpaceTests, linearSpaceAccepted, linearSpaceRefused, linearSpaceAnswer}
+use Rattle.analysis.specs.declared.LinearSpace.{LinearSpace}
+use Rattle.analysis.specs.Spaces.{linearSpaceTests, linearSpaceAccepted, linearSpaceRefused, linearSpaceAnswer}
 
 -- The flags of the on points stand for the function that is on at them.
 pub on-flagged : (n : ℕ) (on : List ℕ) (flags : List Bool) → n ≤ maxVariables → flags ≡ flagsOf on → (w : ℕ) → w < 2 ^ n → flagged flags w ≡ holds on w

@@ -1,4 +1,4 @@
--- `glospruma::glospruma_affine` meets its contract: a refusal, or the directions, the least point and the projection of the on points.
+-- `analysis::affine` meets its contract: a refusal, or the directions, the least point and the projection of the on points.
 -- Assumes nothing.
 use mathlib.Core.Path.{sym, ap, _∙_}
 use mathlib.Core.List.{List}
@@ -8,9 +8,9 @@ use native.Mathlib.Omega.{arith}
 use borrow.Author.Needs.{needs}
 use Rattle.table.specs.Decision.{front}
 use Rattle.table.proofs.Table.{accepted, on-flags}
-use Rattle.glospruma.proofs.AffineSpaces.{on-refused, on-empty, on-passed, projected-all, affine-numbers, affine-projected, affine-ways}
-use Rattle.glospruma.proofs.glospruma_affine.Statement.{statement}
-use Rattle.glospruma.proofs.glospruma_affine.Tie as tie
+use Rattle.analysis.proofs.AffineSpaces.{on-refused, on-empty, on-passed, projected-all, affine-numbers, affine-projected, affine-ways}
+use Rattle.analysis.proofs.affine.Statement.{statement}
+use Rattle.analysis.proofs.affine.Tie as tie
 
 sub-table-fault : tie.Need-sub-table-fault
 sub-table-fault c = search needs
@@ -87,8 +87,8 @@ returns-4 c =
     (c .before .before .write-projection .ensures
     ∙ ap (λ (x : List ℕ). front x (a .room .now)) (affine-projected (a .n) (a .on .now) (d .result) (built .value) (built .basis .reduced) (l .result) (l .ensures)))
 
-pub glospruma-affine-spec : {M : Type 1} → statement M
-glospruma-affine-spec =
+pub affine-spec : {M : Type 1} → statement M
+affine-spec =
     tie.close
     (tie.spec
     sub-table-fault

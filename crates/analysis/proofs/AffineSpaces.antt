@@ -21,8 +21,8 @@ use Rattle.space.specs.Affine.{directions, projection}
 use Rattle.projection.specs.Masks.{projected as byMask}
 use Rattle.projection.proofs.Masks.{projected-projection}
 use Rattle.projection.proofs.Steps.{least-reduced}
-use Rattle.glospruma.specs.declared.Affine.{Affine}
-use Rattle.glospruma.specs.Affine.{affineProjection, onTests, affineAccepted, affineRefused, affineAnswer, affineRoom}
+use Rattle.analysis.specs.declared.AffineSpace.{AffineSpace}
+use Rattle.analysis.specs.Affine.{affineProjection, onTests, affineAccepted, affineRefused, affineAnswer, affineRoom}
 
 -- ---- refusals before the room's
 
@@ -52,7 +52,7 @@ module _ (n : ℕ) (on : List ℕ) where
 
 module _ (n : ℕ) (on : List ℕ) (b : Basis) (value : b ≡ basisOf (directions on)) where
   pub affine-numbers : 0 < length on → (least : ℕ) → least ≡ reduce (vectorsOf b) (getD on 0 0)
-      → _≡_ {A = Affine} (record { refusal = 0; least = least; dimension = b .len; basis = b; count = length on }) (affineAccepted n on)
+      → _≡_ {A = AffineSpace} (record { refusal = 0; least = least; dimension = b .len; basis = b; count = length on }) (affineAccepted n on)
   affine-numbers some least e =
       ap (λ (x : Basis). record { refusal = 0; least = least; dimension = x .len; basis = x; count = length on }) value
       ∙ ap₂ (λ (x y : ℕ). record { refusal = 0; least = x; dimension = length (directions on); basis = basisOf (directions on); count = y })

@@ -1,4 +1,4 @@
--- `glospruma::glospruma_complete` meets its contract: the table's refusal, the room's, or the points of the completed function.
+-- `analysis::complete` meets its contract: the table's refusal, the room's, or the points of the completed function.
 -- Assumes nothing.
 use mathlib.Core.Path.{sym, ap, _∙_}
 use mathlib.Core.List.{List}
@@ -8,9 +8,9 @@ use borrow.Author.Needs.{needs}
 use lib.ListN.{length}
 use Rattle.table.specs.Decision.{front}
 use Rattle.table.proofs.Table.{accepted}
-use Rattle.glospruma.proofs.Completions.{all-kept, complete-numbers, complete-ways}
-use Rattle.glospruma.proofs.glospruma_complete.Statement.{statement}
-use Rattle.glospruma.proofs.glospruma_complete.Tie as tie
+use Rattle.analysis.proofs.Completions.{all-kept, complete-numbers, complete-ways}
+use Rattle.analysis.proofs.complete.Statement.{statement}
+use Rattle.analysis.proofs.complete.Tie as tie
 
 table-fault-requires : tie.Need-table-fault-requires
 table-fault-requires c κs = search needs
@@ -63,8 +63,8 @@ returns-3 c =
     (complete-numbers (a .n) (a .on .now) (a .free .now) (d .result) (d .ensures) (count .result) (count .ensures))
     (c .before .before .write-kept .ensures ∙ ap (λ (l : List ℕ). front l (a .room .now)) kept)
 
-pub glospruma-complete-spec : {M : Type 1} → statement M
-glospruma-complete-spec =
+pub complete-spec : {M : Type 1} → statement M
+complete-spec =
     tie.close
     (tie.spec
     table-fault-requires

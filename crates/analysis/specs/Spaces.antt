@@ -11,9 +11,9 @@ use Rattle.table.specs.Table.{tableTests}
 use Rattle.space.specs.Closure.{linearSpace, degree}
 use Rattle.space.specs.Completion.{completed, completedPoints, k0, k1}
 use Rattle.space.specs.Restriction.{equations, restriction}
-use Rattle.glospruma.specs.declared.LinearSpace.{LinearSpace}
-use Rattle.glospruma.specs.declared.Completion.{Completion}
-use Rattle.glospruma.specs.declared.Analysis.{Analysis}
+use Rattle.analysis.specs.declared.LinearSpace.{LinearSpace}
+use Rattle.analysis.specs.declared.Completion.{Completion}
+use Rattle.analysis.specs.declared.Analysis.{Analysis}
 use Rattle.table.specs.Decision.{decide, roomAfter, roomTest}
 
 -- ---- `linear_space`: n and the on points of a complete function

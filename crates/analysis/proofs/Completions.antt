@@ -20,9 +20,9 @@ use Rattle.space.specs.Restriction.{equations}
 use Rattle.projection.specs.Masks.{kept}
 use Rattle.projection.proofs.Masks.{kept-all}
 use Rattle.projection.proofs.Restrictions.{completed-vectors, completed-len, completed-kept}
-use Rattle.glospruma.specs.declared.Completion.{Completion}
-use Rattle.glospruma.specs.declared.Analysis.{Analysis}
-use Rattle.glospruma.specs.Spaces.{completeAccepted, completeRefused, completeAnswer, completeRoom, analyseAccepted, analyseRefused, analyseAnswer, analyseRoom, completedSpace, completedRestriction}
+use Rattle.analysis.specs.declared.Completion.{Completion}
+use Rattle.analysis.specs.declared.Analysis.{Analysis}
+use Rattle.analysis.specs.Spaces.{completeAccepted, completeRefused, completeAnswer, completeRoom, analyseAccepted, analyseRefused, analyseAnswer, analyseRoom, completedSpace, completedRestriction}
 
 module _ (n : ℕ) (on free : List ℕ) (r : Completed) (k : IsCompleted n on free r) where
   -- All points of the completed function are kept by the mask 0.

@@ -1,10 +1,10 @@
--- `glospruma::glospruma_linear_space` meets its contract: the table's refusal, or the space of the flags of its on points. Assumes nothing.
+-- `analysis::linear_space` meets its contract: the table's refusal, or the space of the flags of its on points. Assumes nothing.
 use mathlib.Core.Path.{sym, _∙_}
 use borrow.Author.Needs.{needs}
 use Rattle.table.proofs.Table.{accepted, on-flags}
-use Rattle.glospruma.proofs.LinearSpaces.{space-refused, space-accepted}
-use Rattle.glospruma.proofs.glospruma_linear_space.Statement.{statement}
-use Rattle.glospruma.proofs.glospruma_linear_space.Tie as tie
+use Rattle.analysis.proofs.LinearSpaces.{space-refused, space-accepted}
+use Rattle.analysis.proofs.linear_space.Statement.{statement}
+use Rattle.analysis.proofs.linear_space.Tie as tie
 
 sub-table-fault : tie.Need-sub-table-fault
 sub-table-fault c = search needs
@@ -41,8 +41,8 @@ returns-2 c =
     space-accepted (a .n) (a .on .now) (accepted (a .n) (a .on .now) _ ok .few) ok
     (c .before .before .flags-of .result) (c .before .before .flags-of .ensures) (c .linear-space .result) (c .linear-space .ensures)
 
-pub glospruma-linear-space-spec : {M : Type 1} → statement M
-glospruma-linear-space-spec =
+pub linear-space-spec : {M : Type 1} → statement M
+linear-space-spec =
     tie.close
     (tie.spec
     sub-table-fault

@@ -8,7 +8,7 @@ use Rattle.basis.specs.Reduced.{basisOf}
 use Rattle.table.specs.Refusal.{Test, test, affineFault}
 use Rattle.table.specs.Table.{tableTests}
 use Rattle.space.specs.Affine.{directions, leastPoint, projection}
-use Rattle.glospruma.specs.declared.Affine.{Affine}
+use Rattle.analysis.specs.declared.AffineSpace.{AffineSpace}
 use Rattle.table.specs.Decision.{decide, roomAfter, roomTest}
 
 -- The projection of the on points.
@@ -22,7 +22,7 @@ onTests n on = tableTests n on [] ++ (test affineFault (eqb (length on) 0) ∷ [
 abbrev pub affineTests : ℕ → List ℕ → List ℕ → List Test
 affineTests n on room = onTests n on ++ roomTest (affineProjection n on) room
 
-abbrev pub affineAccepted : ℕ → List ℕ → Affine
+abbrev pub affineAccepted : ℕ → List ℕ → AffineSpace
 affineAccepted n on = record {
   refusal = 0;
   least = leastPoint on;
@@ -31,10 +31,10 @@ affineAccepted n on = record {
   count = length (affineProjection n on);
 }
 
-abbrev pub affineRefused : ℕ → Affine
+abbrev pub affineRefused : ℕ → AffineSpace
 affineRefused number = record { refusal = number; least = 0; dimension = 0; basis = basisOf []; count = 0 }
 
-abbrev pub affineAnswer : ℕ → List ℕ → List ℕ → Affine
+abbrev pub affineAnswer : ℕ → List ℕ → List ℕ → AffineSpace
 affineAnswer n on room = decide (affineTests n on room) (affineAccepted n on) affineRefused
 
 abbrev pub affineRoom : ℕ → List ℕ → List ℕ → List ℕ

@@ -1,4 +1,4 @@
--- `glospruma::glospruma_analyse` meets its contract: the table's refusal, the room's, or the space and restriction of the completed function.
+-- `analysis::analyse` meets its contract: the table's refusal, the room's, or the space and restriction of the completed function.
 -- Assumes nothing.
 use mathlib.Core.Path.{sym, ap, _∙_}
 use mathlib.Core.List.{List}
@@ -9,9 +9,9 @@ use lib.ListN.{length}
 use Rattle.table.specs.Decision.{front}
 use Rattle.table.proofs.Table.{accepted}
 use Rattle.projection.proofs.Restrictions.{completed-kept}
-use Rattle.glospruma.proofs.Completions.{analyse-numbers, analyse-ways}
-use Rattle.glospruma.proofs.glospruma_analyse.Statement.{statement}
-use Rattle.glospruma.proofs.glospruma_analyse.Tie as tie
+use Rattle.analysis.proofs.Completions.{analyse-numbers, analyse-ways}
+use Rattle.analysis.proofs.analyse.Statement.{statement}
+use Rattle.analysis.proofs.analyse.Tie as tie
 
 table-fault-requires : tie.Need-table-fault-requires
 table-fault-requires c κs = search needs
@@ -80,8 +80,8 @@ returns-3 c =
     (l .ensures) (count .ensures) (c .before .canonical .ensures) (c .equations .ensures))
     (c .before .before .before .before .write-kept .ensures ∙ ap (λ (x : List ℕ). front x (a .room .now)) kept)
 
-pub glospruma-analyse-spec : {M : Type 1} → statement M
-glospruma-analyse-spec =
+pub analyse-spec : {M : Type 1} → statement M
+analyse-spec =
     tie.close
     (tie.spec
     table-fault-requires
