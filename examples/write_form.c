@@ -1,5 +1,5 @@
 /* Writes the form of a stored table. Standard input holds the table, standard output gets the form's bytes. If the table or its form is refused,
- * nothing is written there, `refused N` goes to standard error, and the exit status is 1. To build and run it, in the folder of the repository:
+ * nothing is written there, `refused N` and why goes to standard error, and the exit status is 1. To build and run it, in the folder of the repository:
  *
  *     rt staticlib glospruma
  *     cc -Iinclude examples/write_form.c target/staticlib/libglospruma.a -o target/write_form
@@ -18,7 +18,7 @@ static uint16_t on[GLOSPRUMA_MAX_POINTS], free_points[GLOSPRUMA_MAX_POINTS];
 static uint8_t form[GLOSPRUMA_WRITTEN_ROOM];
 
 static int refused(unsigned number) {
-    fprintf(stderr, "refused %u\n", number);
+    fprintf(stderr, "refused %u: %s\n", number, glospruma_refusal_text(number));
     return EXIT_FAILURE;
 }
 

@@ -9,7 +9,7 @@
  * Points are numbers below 2^n; x1 is the highest bit of a point, xn its lowest. A table is a rising list of on points and a rising list of
  * free points; all other points are off. A mask names variables by the same bits.
  *
- * Stored tables and forms are records: a byte of kind, here in hexadecimal, and its body, numbers of two bytes with the low byte first (README.md,
+ * Stored tables and forms are records: a byte of kind, here in hexadecimal, and its body, numbers of two bytes with the low byte first (docs/CALLS.md,
  * "The bytes", has every rule).
  *
  *     table   4E n, then for each point, rising: 4F point if it is on, 44 point if it is free; 45 and the number of points (2 bytes)
@@ -40,6 +40,9 @@
 extern "C" {
 #endif
 
+/* The version of this header and of the library, as in CHANGELOG.md. */
+#define GLOSPRUMA_VERSION "0.2.0"
+
 /* The largest number of variables, of points of a table, and of variables of a listing; the bytes of the longest stored table. */
 #define GLOSPRUMA_MAX_VARIABLES 12
 #define GLOSPRUMA_MAX_POINTS 4096
@@ -57,19 +60,48 @@ extern "C" {
 #define GLOSPRUMA_RECORD_LENGTH 8
 #define GLOSPRUMA_LISTING_ROOM 22600
 
-/* Each call tests what concerns it in the order 1, 2, 3, 4, 6, 5, 9, 7, and bytes for 8 first; the first that applies is given. */
+/* Each call tests what concerns it in the order 1, 2, 3, 4, 6, 5, 9, 7, and bytes for 8 first; the first that applies is given. When each is given is
+ * what glospruma_refusal_text says; docs/CALLS.md has what to do about it. */
 enum glospruma_refusal {
     GLOSPRUMA_ACCEPTED = 0,
-    GLOSPRUMA_VARIABLES = 1, /* n is 0 or above 12 */
-    GLOSPRUMA_POINT = 2,     /* a point of either list is 2^n or more */
-    GLOSPRUMA_ORDER = 3,     /* a point isn't greater than the one before it in its list */
-    GLOSPRUMA_SHARED = 4,    /* a point stands in both lists */
-    GLOSPRUMA_SIZE = 5,      /* listing with n above 6, or a form with n-k above 6: the restriction has that many variables */
-    GLOSPRUMA_AFFINE = 6,    /* smallest affine space of an empty on set */
-    GLOSPRUMA_ROOM = 7,      /* an answer is longer than its lent room */
-    GLOSPRUMA_LAYOUT = 8,    /* bytes aren't a form, or aren't laid out as a table */
-    GLOSPRUMA_PLACE = 9      /* a listing place above the number of candidates */
+    GLOSPRUMA_VARIABLES = 1,
+    GLOSPRUMA_POINT = 2,
+    GLOSPRUMA_ORDER = 3,
+    GLOSPRUMA_SHARED = 4,
+    GLOSPRUMA_SIZE = 5,
+    GLOSPRUMA_AFFINE = 6,
+    GLOSPRUMA_ROOM = 7,
+    GLOSPRUMA_LAYOUT = 8,
+    GLOSPRUMA_PLACE = 9
 };
+
+/* When a number is given, in words; n-k is the number of variables that the restriction has. */
+static inline const char *glospruma_refusal_text(unsigned number) {
+    switch (number) {
+    case GLOSPRUMA_ACCEPTED:
+        return "accepted";
+    case GLOSPRUMA_VARIABLES:
+        return "n is 0 or above 12";
+    case GLOSPRUMA_POINT:
+        return "a point of either list is 2^n or more";
+    case GLOSPRUMA_ORDER:
+        return "a point isn't greater than the one before it in its list";
+    case GLOSPRUMA_SHARED:
+        return "a point stands in both lists";
+    case GLOSPRUMA_SIZE:
+        return "listing with n above 6, or a form with n-k above 6";
+    case GLOSPRUMA_AFFINE:
+        return "smallest affine space of an empty on set";
+    case GLOSPRUMA_ROOM:
+        return "an answer is longer than its lent room";
+    case GLOSPRUMA_LAYOUT:
+        return "bytes aren't a form, or aren't laid out as a table";
+    case GLOSPRUMA_PLACE:
+        return "a listing place above the number of candidates";
+    default:
+        return "no call gives this number";
+    }
+}
 
 /* Up to twelve numbers; unused entries are 0. */
 typedef struct {

@@ -1,5 +1,5 @@
 //! Written forms: the form of a table, and reading a form. Follows document 01,
-//! section "The written form"; README.md, "The bytes", has every rule.
+//! section "The written form"; docs/CALLS.md, "The bytes", has every rule.
 
 use crate::raw;
 use crate::refusal::{check, Refusal};

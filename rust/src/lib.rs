@@ -65,6 +65,9 @@ pub use spaces::{
 };
 pub use stored::{read_table, report, Report, Table};
 
+/// The version of the package and of the library.
+pub const VERSION: &str = env!("CARGO_PKG_VERSION");
+
 /// The largest number of variables.
 pub const MAX_VARIABLES: usize = 12;
 
