@@ -22,7 +22,7 @@ use Rattle.projection.specs.Masks.{projected as byMask}
 use Rattle.projection.proofs.Masks.{projected-projection}
 use Rattle.projection.proofs.Steps.{least-reduced}
 use Rattle.analysis.specs.declared.AffineSpace.{AffineSpace}
-use Rattle.analysis.specs.Affine.{affineProjection, onTests, affineAccepted, affineRefused, affineAnswer, affineRoom}
+use Rattle.analysis.specs.Affine.{affineProjection, onTests, affineAccepted, affineRefused, affineAnswer, affineAfter}
 
 -- ---- refusals before the room's
 
@@ -65,5 +65,6 @@ module _ (n : ℕ) (on : List ℕ) (b : Basis) (value : b ≡ basisOf (direction
 
 -- ---- the three ways out of a call
 
-pub affine-ways : (n : ℕ) (on room : List ℕ) → Ways (firstFault (onTests n on)) (affineProjection n on) room (affineAccepted n on) affineRefused (affineAnswer n on room) (affineRoom n on room)
+pub affine-ways : (n : ℕ) (on room : List ℕ) → Ways (firstFault (onTests n on)) (affineProjection n on) room (affineAccepted n on) affineRefused (affineAnswer n on room) (affineAfter n on room)
+unfolding affineAnswer affineAfter
 affine-ways n on room = ways (onTests n on) (affineProjection n on) room (affineAccepted n on) affineRefused (on-numbered n on)

@@ -22,7 +22,7 @@ use Rattle.projection.proofs.Masks.{kept-all}
 use Rattle.projection.proofs.Restrictions.{completed-vectors, completed-len, completed-kept}
 use Rattle.analysis.specs.declared.Completion.{Completion}
 use Rattle.analysis.specs.declared.Analysis.{Analysis}
-use Rattle.analysis.specs.Spaces.{completeAccepted, completeRefused, completeAnswer, completeRoom, analyseAccepted, analyseRefused, analyseAnswer, analyseRoom, completedSpace, completedRestriction}
+use Rattle.analysis.specs.Spaces.{completeAccepted, completeRefused, completeAnswer, completeAfter, analyseAccepted, analyseRefused, analyseAnswer, analyseAfter, completedSpace, completedRestriction}
 
 module _ (n : ℕ) (on free : List ℕ) (r : Completed) (k : IsCompleted n on free r) where
   -- All points of the completed function are kept by the mask 0.
@@ -64,10 +64,10 @@ module _ (n : ℕ) (on free : List ℕ) (r : Completed) (k : IsCompleted n on fr
 -- ---- the three ways out of a call: refused for the table, refused for the room, accepted
 
 module _ (n : ℕ) (on free room : List ℕ) where
-  pub complete-ways : Ways (tableFault n on free) (completedPoints n on free) room (completeAccepted n on free) completeRefused (completeAnswer n on free room) (completeRoom n on free room)
-  unfolding tableFault
+  pub complete-ways : Ways (tableFault n on free) (completedPoints n on free) room (completeAccepted n on free) completeRefused (completeAnswer n on free room) (completeAfter n on free room)
+  unfolding tableFault completeAnswer completeAfter
   complete-ways = ways (tableTests n on free) (completedPoints n on free) room (completeAccepted n on free) completeRefused (table-numbered n on free)
 
-  pub analyse-ways : Ways (tableFault n on free) (completedRestriction n on free) room (analyseAccepted n on free) analyseRefused (analyseAnswer n on free room) (analyseRoom n on free room)
-  unfolding tableFault
+  pub analyse-ways : Ways (tableFault n on free) (completedRestriction n on free) room (analyseAccepted n on free) analyseRefused (analyseAnswer n on free room) (analyseAfter n on free room)
+  unfolding tableFault analyseAnswer analyseAfter
   analyse-ways = ways (tableTests n on free) (completedRestriction n on free) room (analyseAccepted n on free) analyseRefused (table-numbered n on free)

@@ -26,13 +26,13 @@ on-flagged n on flags few e w h = ap (λ l. flagged l w) e ∙ flags-at on w (om
 
 module _ (n : ℕ) (on : List ℕ) where
   pub space-refused : (k : ℕ) → k ≡ tableFault n on [] → k ≢ 0 → linearSpaceRefused k ≡ linearSpaceAnswer n on
-  unfolding tableFault
+  unfolding tableFault linearSpaceAnswer
   space-refused k e nz = sym (decide-refused (linearSpaceTests n on) (linearSpaceAccepted n on) linearSpaceRefused k nz (sym e))
 
   pub space-accepted : n ≤ maxVariables → tableFault n on [] ≡ 0 → (flags : List Bool) → flags ≡ flagsOf on
       → (b : Basis) → Built b (linearSpace n (flagged flags)) (In n (closed n (flagged flags)))
       → _≡_ {A = LinearSpace} (record { refusal = 0; degree = b .len; basis = b }) (linearSpaceAnswer n on)
-  unfolding tableFault degree
+  unfolding tableFault degree linearSpaceAnswer
   space-accepted few ok flags f b built =
       let same : linearSpace n (flagged flags) ≡ linearSpace n (holds on) = linear-ext n (flagged flags) (holds on) (on-flagged n on flags few f) in
       let value : b ≡ basisOf (linearSpace n (holds on)) = built .value ∙ ap basisOf same in

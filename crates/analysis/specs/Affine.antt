@@ -9,7 +9,7 @@ use Rattle.table.specs.Refusal.{Test, test, affineFault}
 use Rattle.table.specs.Table.{tableTests}
 use Rattle.space.specs.Affine.{directions, leastPoint, projection}
 use Rattle.analysis.specs.declared.AffineSpace.{AffineSpace}
-use Rattle.table.specs.Decision.{decide, roomAfter, roomTest}
+use Rattle.table.specs.Decision.{Decision, answerOf, afterOf, roomTest}
 
 -- The projection of the on points.
 abbrev pub affineProjection : ℕ → List ℕ → List ℕ
@@ -34,8 +34,11 @@ affineAccepted n on = record {
 abbrev pub affineRefused : ℕ → AffineSpace
 affineRefused number = record { refusal = number; least = 0; dimension = 0; basis = basisOf []; count = 0 }
 
-abbrev pub affineAnswer : ℕ → List ℕ → List ℕ → AffineSpace
-affineAnswer n on room = decide (affineTests n on room) (affineAccepted n on) affineRefused
+abbrev pub affineCall : ℕ → List ℕ → List ℕ → Decision AffineSpace
+affineCall n on room = record { tests = affineTests n on room; accepted = affineAccepted n on; refused = affineRefused }
 
-abbrev pub affineRoom : ℕ → List ℕ → List ℕ → List ℕ
-affineRoom n on room = roomAfter (affineTests n on room) (affineProjection n on) room
+unfoldable pub affineAnswer : ℕ → List ℕ → List ℕ → AffineSpace
+affineAnswer n on room = answerOf (affineCall n on room)
+
+unfoldable pub affineAfter : ℕ → List ℕ → List ℕ → List ℕ
+affineAfter n on room = afterOf (affineCall n on room) (affineProjection n on) room

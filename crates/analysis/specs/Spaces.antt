@@ -14,7 +14,7 @@ use Rattle.space.specs.Restriction.{equations, restriction}
 use Rattle.analysis.specs.declared.LinearSpace.{LinearSpace}
 use Rattle.analysis.specs.declared.Completion.{Completion}
 use Rattle.analysis.specs.declared.Analysis.{Analysis}
-use Rattle.table.specs.Decision.{decide, roomAfter, roomTest}
+use Rattle.table.specs.Decision.{Decision, answerOf, afterOf, roomTest}
 
 -- ---- `linear_space`: n and the on points of a complete function
 
@@ -28,8 +28,11 @@ linearSpaceAccepted n on = record { refusal = 0; degree = degree n (holds on); b
 abbrev pub linearSpaceRefused : ℕ → LinearSpace
 linearSpaceRefused number = record { refusal = number; degree = 0; basis = basisOf [] }
 
-abbrev pub linearSpaceAnswer : ℕ → List ℕ → LinearSpace
-linearSpaceAnswer n on = decide (linearSpaceTests n on) (linearSpaceAccepted n on) linearSpaceRefused
+abbrev pub linearSpaceCall : ℕ → List ℕ → Decision LinearSpace
+linearSpaceCall n on = record { tests = linearSpaceTests n on; accepted = linearSpaceAccepted n on; refused = linearSpaceRefused }
+
+unfoldable pub linearSpaceAnswer : ℕ → List ℕ → LinearSpace
+linearSpaceAnswer n on = answerOf (linearSpaceCall n on)
 
 -- ---- `complete`: the points of the completed function, rising, and k0 and k1
 
@@ -48,11 +51,14 @@ completeAccepted n on free = record {
 abbrev pub completeRefused : ℕ → Completion
 completeRefused number = record { refusal = number; count = 0; degree = 0; k0 = 0; k1 = 0 }
 
-abbrev pub completeAnswer : ℕ → List ℕ → List ℕ → List ℕ → Completion
-completeAnswer n on free room = decide (completeTests n on free room) (completeAccepted n on free) completeRefused
+abbrev pub completeCall : ℕ → List ℕ → List ℕ → List ℕ → Decision Completion
+completeCall n on free room = record { tests = completeTests n on free room; accepted = completeAccepted n on free; refused = completeRefused }
 
-abbrev pub completeRoom : ℕ → List ℕ → List ℕ → List ℕ → List ℕ
-completeRoom n on free room = roomAfter (completeTests n on free room) (completedPoints n on free) room
+unfoldable pub completeAnswer : ℕ → List ℕ → List ℕ → List ℕ → Completion
+completeAnswer n on free room = answerOf (completeCall n on free room)
+
+unfoldable pub completeAfter : ℕ → List ℕ → List ℕ → List ℕ → List ℕ
+completeAfter n on free room = afterOf (completeCall n on free room) (completedPoints n on free) room
 
 -- ---- `analyse`: the linear space of the completed function, its canonical variables and equations, and its restriction
 
@@ -80,8 +86,11 @@ analyseAccepted n on free = record {
 abbrev pub analyseRefused : ℕ → Analysis
 analyseRefused number = record { refusal = number; degree = 0; basis = basisOf []; canonical = short []; equations = short []; count = 0 }
 
-abbrev pub analyseAnswer : ℕ → List ℕ → List ℕ → List ℕ → Analysis
-analyseAnswer n on free room = decide (analyseTests n on free room) (analyseAccepted n on free) analyseRefused
+abbrev pub analyseCall : ℕ → List ℕ → List ℕ → List ℕ → Decision Analysis
+analyseCall n on free room = record { tests = analyseTests n on free room; accepted = analyseAccepted n on free; refused = analyseRefused }
 
-abbrev pub analyseRoom : ℕ → List ℕ → List ℕ → List ℕ → List ℕ
-analyseRoom n on free room = roomAfter (analyseTests n on free room) (completedRestriction n on free) room
+unfoldable pub analyseAnswer : ℕ → List ℕ → List ℕ → List ℕ → Analysis
+analyseAnswer n on free room = answerOf (analyseCall n on free room)
+
+unfoldable pub analyseAfter : ℕ → List ℕ → List ℕ → List ℕ → List ℕ
+analyseAfter n on free room = afterOf (analyseCall n on free room) (completedRestriction n on free) room

@@ -2,8 +2,8 @@
 // Each function takes numbers and lent slices, asks nothing of its caller, and says in its contract what it returns and what every lent slice holds
 // afterwards, on all inputs. Read next: specs/Spaces.antt.
 ghost use mathlib.Core.Path.{_≡_};
-ghost use Rattle.analysis.specs.Spaces.{linearSpaceAnswer, completeRefused, completeAnswer, completeRoom, analyseRefused, analyseAnswer, analyseRoom};
-ghost use Rattle.analysis.specs.Affine.{affineRefused, affineAnswer, affineRoom};
+ghost use Rattle.analysis.specs.Spaces.{linearSpaceAnswer, completeRefused, completeAnswer, completeAfter, analyseRefused, analyseAnswer, analyseAfter};
+ghost use Rattle.analysis.specs.Affine.{affineRefused, affineAnswer, affineAfter};
 use basis::Basis;
 use basis::ShortList;
 use table::AFFINE_FAULT;
@@ -85,7 +85,7 @@ fn no_completion(refusal: u8) -> Completion
 // The completed function's points, rising, at the front of the room. Refusals 1, 2, 3, 4, then 7.
 pub fn complete(n: usize, on: &[u16], free: &[u16], room: &mut [u16]) -> Completion
     ensures { λ r. ⌜ r ≡ completeAnswer n (now (on .entry)) (now (free .entry)) (now (room .entry)) ⌝ }
-    ensures { λ r. ⌜ now (room .exit) ≡ completeRoom n (now (on .entry)) (now (free .entry)) (now (room .entry)) ⌝ }
+    ensures { λ r. ⌜ now (room .exit) ≡ completeAfter n (now (on .entry)) (now (free .entry)) (now (room .entry)) ⌝ }
 {
     let fault = table::table_fault(n, on, free);
     if fault != 0 {
@@ -125,7 +125,7 @@ fn no_analysis(refusal: u8) -> Analysis
 // The linear space of the completed function, and the points of its restriction, rising, at the front of the room. Refusals 1, 2, 3, 4, then 7.
 pub fn analyse(n: usize, on: &[u16], free: &[u16], room: &mut [u16]) -> Analysis
     ensures { λ r. ⌜ r ≡ analyseAnswer n (now (on .entry)) (now (free .entry)) (now (room .entry)) ⌝ }
-    ensures { λ r. ⌜ now (room .exit) ≡ analyseRoom n (now (on .entry)) (now (free .entry)) (now (room .entry)) ⌝ }
+    ensures { λ r. ⌜ now (room .exit) ≡ analyseAfter n (now (on .entry)) (now (free .entry)) (now (room .entry)) ⌝ }
 {
     let fault = table::table_fault(n, on, free);
     if fault != 0 {
@@ -168,7 +168,7 @@ fn no_affine(refusal: u8) -> AffineSpace
 // The smallest affine space that holds the on points, and their projection at the front of the room. Refusals 1, 2, 3, 6, then 7.
 pub fn affine(n: usize, on: &[u16], room: &mut [u16]) -> AffineSpace
     ensures { λ r. ⌜ r ≡ affineAnswer n (now (on .entry)) (now (room .entry)) ⌝ }
-    ensures { λ r. ⌜ now (room .exit) ≡ affineRoom n (now (on .entry)) (now (room .entry)) ⌝ }
+    ensures { λ r. ⌜ now (room .exit) ≡ affineAfter n (now (on .entry)) (now (room .entry)) ⌝ }
 {
     let fault = table::table_fault(n, on, &on[0..0]);
     if fault != 0 {

@@ -16,13 +16,13 @@ use Rattle.stored.specs.Stored.{storedTests, storedFault}
 use Rattle.stored.specs.Reading.{refusedRead, readAnswer, onAfter, freeAfter}
 use Rattle.form.specs.Reading.{refusedPoints, pointsAnswer, pointsAfter, refusedRewrite, rewriteAnswer, rewriteAfter}
 use Rattle.cubes.specs.Lists.{keep}
-use Rattle.cubes.specs.Listing.{refusing, answer, listingRoom}
+use Rattle.cubes.specs.Listing.{listingRefused, listingAnswer, listingAfter}
 use Rattle.writing.specs.Writing.{writeRefused, writeAnswer, writeAfter}
 use Rattle.table_report.specs.Text.{refusedLine}
 use Rattle.report.specs.Report.{reportText}
 use Rattle.report.specs.Answer.{reportRefused, reportAnswer, reportAfter}
-use Rattle.analysis.specs.Spaces.{linearSpaceRefused, completeRefused, analyseRefused}
-use Rattle.analysis.specs.Affine.{affineRefused}
+use Rattle.analysis.specs.Spaces.{linearSpaceRefused, linearSpaceAnswer, completeRefused, completeAnswer, completeAfter, analyseRefused, analyseAnswer, analyseAfter}
+use Rattle.analysis.specs.Affine.{affineRefused, affineAnswer, affineAfter}
 use Rattle.claims.specs.Demand1.{refusalOrder, Room, AllZero, Decides, Printed, Demand1}
 
 -- ---- any call that decides by its tests
@@ -62,7 +62,7 @@ report-printed bytes = record {
 -- ---- the calls
 
 pub demand1 : Demand1
-unfolding holds keep tableTests readAnswer onAfter freeAfter answer listingRoom pointsAnswer pointsAfter rewriteAnswer rewriteAfter writeAnswer writeAfter reportAnswer reportAfter
+unfolding holds keep tableTests readAnswer onAfter freeAfter linearSpaceAnswer completeAnswer completeAfter analyseAnswer analyseAfter affineAnswer affineAfter listingAnswer listingAfter pointsAnswer pointsAfter rewriteAnswer rewriteAfter writeAnswer writeAfter reportAnswer reportAfter
 demand1 = record {
   read-table = λ bytes on free. decides _ _ _ _ _ refusedRead _ refl refl refl refl refl (λ k. refl) (λ k. refl);
   linear-space = λ n on. decides _ _ _ _ _ linearSpaceRefused _ refl refl refl refl refl (λ k. refl) (λ k. refl);
@@ -70,7 +70,7 @@ demand1 = record {
   analyse = λ n on free room. decides _ _ _ _ _ analyseRefused _ refl refl refl refl refl (λ k. refl) (λ k. refl);
   affine = λ n on room. decides _ _ _ _ _ affineRefused _ refl refl refl refl refl (λ k. refl) (λ k. refl);
   never-shared = λ on. refuted (shared on []) (λ e. shared-mem on [] e .2);
-  list-primes = λ n on free place allowance room. decides _ _ _ _ _ refusing _ refl refl refl refl refl (λ k. refl) (λ k. refl);
+  list-primes = λ n on free place allowance room. decides _ _ _ _ _ listingRefused _ refl refl refl refl refl (λ k. refl) (λ k. refl);
   write-form = λ n on free room. decides _ _ _ _ _ writeRefused _ refl refl refl refl refl (λ k. refl) (λ k. refl);
   form-points = λ bytes room. decides _ _ _ _ _ refusedPoints _ refl refl refl refl refl (λ k. refl) (λ k. refl);
   form-rewrite = λ bytes room. decides _ _ _ _ _ refusedRewrite _ refl refl refl refl refl (λ k. refl) (λ k. refl);

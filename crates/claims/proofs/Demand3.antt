@@ -22,7 +22,7 @@ use Rattle.cubes.specs.Lists.{keep}
 use Rattle.cubes.specs.Cubes.{Candidate, Only}
 use Rattle.cubes.specs.Candidates.{Before, candidates, candidateCount}
 use Rattle.cubes.specs.Records.{maxListed, recordLength, recordOf, recordsOf}
-use Rattle.cubes.specs.Listing.{Table, Call, primeOf, listingTests, listingFault, accepted, listing, Answer, accepting, refusing, answer}
+use Rattle.cubes.specs.Listing.{Table, Call, primeOf, listingTests, listingFault, accepted, listing, Answer, listingAccepted, listingRefused, listingAnswer}
 use Rattle.cubes.specs.Calls.{handedOver, Obeyed, Refused, primesBehind, endOf}
 use Rattle.cubes.proofs.Lists.{keep-mem, mem-keep, take-mem, ordered-keep, ordered-take, ordered-with}
 use Rattle.cubes.proofs.Candidates.{before-not, candidates-ordered}
@@ -34,9 +34,9 @@ use Rattle.claims.specs.Demand3.{wasAccepted, goesOn, Continues, advance
 -- ---- one call
 
 -- The number that a call returns is the refusal by its tests.
-refusal-is : (c : Call) → answer c .refusal ≡ listingFault c
-unfolding answer listingFault
-refusal-is c = decide-number (λ (a : Answer). a .refusal) (listingTests c) (accepting (c .place) (listing c)) refusing refl (λ k. refl)
+refusal-is : (c : Call) → listingAnswer c .refusal ≡ listingFault c
+unfolding listingAnswer listingFault
+refusal-is c = decide-number (λ (a : Answer). a .refusal) (listingTests c) (listingAccepted (c .place) (listing c)) listingRefused refl (λ k. refl)
 
 -- A call that returned no refusal was accepted by the rule; a call that did was not.
 by-rule : {b : Bool} (c : Call) → wasAccepted c ≡ b → accepted c ≡ b
@@ -48,14 +48,14 @@ obeys c e = call-obeyed c (by-rule c e)
 gives-nothing : (c : Call) → wasAccepted c ≡ false → Refused c
 gives-nothing c e = call-refused c (by-rule c e)
 
-was : (c : Call) → answer c .refusal ≡ 0 → wasAccepted c ≡ true
-was c e = eq-eqb (answer c .refusal) 0 e
+was : (c : Call) → listingAnswer c .refusal ≡ 0 → wasAccepted c ≡ true
+was c e = eq-eqb (listingAnswer c .refusal) 0 e
 
-was-not : (c : Call) → answer c .refusal ≢ 0 → wasAccepted c ≡ false
-was-not c n = ne-eqb (answer c .refusal) 0 n
+was-not : (c : Call) → listingAnswer c .refusal ≢ 0 → wasAccepted c ≡ false
+was-not c n = ne-eqb (listingAnswer c .refusal) 0 n
 
-returned-none : (c : Call) → wasAccepted c ≡ true → answer c .refusal ≡ 0
-returned-none c e = eqb-true (answer c .refusal) 0 e
+returned-none : (c : Call) → wasAccepted c ≡ true → listingAnswer c .refusal ≡ 0
+returned-none c e = eqb-true (listingAnswer c .refusal) 0 e
 
 -- ---- the place that was returned, and the place by the listing rule
 
@@ -68,7 +68,7 @@ Consecutive t place (c ∷ cs) = (wasAccepted c ≡ true → (c .table ≡ t) ×
 same-place : (t : Table) (p : ℕ) (c : Call) → (wasAccepted c ≡ true → (c .table ≡ t) × (c .place ≡ p)) → goesOn p c ≡ advance p c
 same-place t p c u = go (wasAccepted c) refl
   where
-    go : (b : Bool) → wasAccepted c ≡ b → cond b (answer c .next) p ≡ cond b (p + listing c .passed) p
+    go : (b : Bool) → wasAccepted c ≡ b → cond b (listingAnswer c .next) p ≡ cond b (p + listing c .passed) p
     go true e = let o = obeys c e in omega (arith, o .next, o .passed, u e .1)
     go false e = refl
 
@@ -96,7 +96,7 @@ able-is c e =
     )
 
 -- Short of the end an able call moves on.
-able-moves : (c : Call) → able c ≡ true → c .place < endOf (c .table) → c .place < answer c .next
+able-moves : (c : Call) → able c ≡ true → c .place < endOf (c .table) → c .place < listingAnswer c .next
 able-moves c a h =
     let b = able-is c a in
     let o = obeys c (b .0) in
@@ -108,8 +108,8 @@ record Step (t : Table) (p : ℕ) (c : Call) (q : ℕ) : Type 0 where
   low : p ≤ q
   high : q ≤ endOf t
   handed : recordsOf (primesBehind t p) ++ handedOver c ≡ recordsOf (primesBehind t q)
-  number : length (primesBehind t p) + answer c .records ≡ length (primesBehind t q)
-  passed : p + answer c .passed ≡ q
+  number : length (primesBehind t p) + listingAnswer c .records ≡ length (primesBehind t q)
+  passed : p + listingAnswer c .passed ≡ q
   moves : able c ≡ true → p < endOf t → p < q
 
 taken : (c : Call) → wasAccepted c ≡ true → Step (c .table) (c .place) c (c .place + listing c .passed)
@@ -153,8 +153,8 @@ record Run (t : Table) (p : ℕ) (cs : List Call) (q : ℕ) : Type 0 where
   low : p ≤ q
   high : q ≤ endOf t
   handed : recordsOf (primesBehind t p) ++ flatMap handedOver cs ≡ recordsOf (primesBehind t q)
-  number : length (primesBehind t p) + sumOf (λ c. answer c .records) cs ≡ length (primesBehind t q)
-  passed : p + sumOf (λ c. answer c .passed) cs ≡ q
+  number : length (primesBehind t p) + sumOf (λ c. listingAnswer c .records) cs ≡ length (primesBehind t q)
+  passed : p + sumOf (λ c. listingAnswer c .passed) cs ≡ q
   moves : (p + length (keep able cs) ≤ q) ⊎ (q ≡ endOf t)
 
 run : (t : Table) (cs : List Call) (p : ℕ) → p ≤ endOf t → Consecutive t p cs → Run t p cs (reached p cs)
@@ -194,7 +194,7 @@ reached-refused p [] h = refl
 reached-refused p (c ∷ cs) h = ap (λ (b : Bool). reached (cond b (p + listing c .passed) p) cs) (h c (inl refl)) ∙ reached-refused p cs (λ d m. h d (inr m))
 
 reached-last : (t : Table) (p : ℕ) (bs : List Call) (c : Call) (cs : List Call) → Consecutive t p (bs ++ (c ∷ cs)) → wasAccepted c ≡ true
-    → ((d : Call) → Mem d cs → wasAccepted d ≡ false) → reached p (bs ++ (c ∷ cs)) ≡ answer c .next
+    → ((d : Call) → Mem d cs → wasAccepted d ≡ false) → reached p (bs ++ (c ∷ cs)) ≡ listingAnswer c .next
 unfolding reached
 reached-last t p [] c cs u e h =
     let o = obeys c e in

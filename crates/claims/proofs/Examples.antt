@@ -22,7 +22,7 @@ use Rattle.cubes.specs.Cubes.{spans, pointsOf}
 use Rattle.cubes.specs.Candidates.{bases, candidatesOf, candidatesFrom, candidates}
 use Rattle.cubes.specs.Primes.{everyPoint, somePoint, cannotGrow, isPrime}
 use Rattle.cubes.specs.Records.{recordOf, recordsOf}
-use Rattle.cubes.specs.Listing.{listingFault, passage, listing, answer, listingRoom}
+use Rattle.cubes.specs.Listing.{listingFault, passage, listing, listingAnswer, listingAfter}
 use Rattle.cubes.specs.Calls.{handedOver}
 use Rattle.listing.specs.Answers.{callOf}
 use Rattle.cover.specs.CanonicalProduct.{placeFactor, canonicalProduct}
@@ -30,8 +30,8 @@ use Rattle.cover.specs.Substitution.{substituteMask, substituteFactor, substitu
 use Rattle.cover.specs.Choice.{primesOf, covered, firstHolding, takenFor, takenThrough, chosen}
 use Rattle.cover.specs.WrittenForm.{writtenProduct, formOf, writtenForm, formSizeFault}
 use Rattle.writing.specs.Writing.{formBytes, writeAnswer, writeAfter}
-use Rattle.analysis.specs.Spaces.{completeAnswer, completeRoom, analyseAnswer, analyseRoom}
-use Rattle.analysis.specs.Affine.{affineAnswer, affineRoom}
+use Rattle.analysis.specs.Spaces.{completeAnswer, completeAfter, analyseAnswer, analyseAfter}
+use Rattle.analysis.specs.Affine.{affineAnswer, affineAfter}
 
 -- ---- what the calls are asked, and what they reply
 
@@ -60,17 +60,17 @@ pub data Reply : Type 0 where
 
 pub reply : Question → Reply
 reply (complete n on free) =
-    let r = completeAnswer n on free pointRoom in completion (r .refusal) (r .degree) (r .k0) (r .k1) (take (r .count) (completeRoom n on free pointRoom))
+    let r = completeAnswer n on free pointRoom in completion (r .refusal) (r .degree) (r .k0) (r .k1) (take (r .count) (completeAfter n on free pointRoom))
 reply (analyse n on free) =
     let r = analyseAnswer n on free pointRoom in
-    analysis (r .refusal) (r .degree) (vectorsOf (r .basis)) (listed (r .canonical)) (listed (r .equations)) (take (r .count) (analyseRoom n on free pointRoom))
+    analysis (r .refusal) (r .degree) (vectorsOf (r .basis)) (listed (r .canonical)) (listed (r .equations)) (take (r .count) (analyseAfter n on free pointRoom))
 reply (affine n on) =
-    let r = affineAnswer n on pointRoom in space (r .refusal) (r .least) (r .dimension) (vectorsOf (r .basis)) (take (r .count) (affineRoom n on pointRoom))
+    let r = affineAnswer n on pointRoom in space (r .refusal) (r .least) (r .dimension) (vectorsOf (r .basis)) (take (r .count) (affineAfter n on pointRoom))
 reply (write-form n on free) =
     let r = writeAnswer n on free byteRoom in form (r .refusal) (r .products) (take (r .length) (writeAfter n on free byteRoom))
 reply (list-primes n on free place) =
     let c = callOf n on free place 99 byteRoom in
-    let r = answer c in
+    let r = listingAnswer c in
     records (r .refusal) (r .next) (r .passed) (r .records) (handedOver c)
 
 pub record Example : Type 0 where
@@ -116,5 +116,5 @@ examples =
 
 -- Each reply is the one expected.
 pub computed : map (λ e. reply (e .asked)) examples ≡ map (λ e. e .expected) examples
-unfolding examples example five fiveForm sixRecords reply handedOver writeAnswer writeAfter formBytes formSizeFault completedPoints holds all select bit halvings lead oddIn odd clear reduce place join insert inserts reduces irreducible reducedBasis isLead placesAt firstFault tableTests badCount outside notAbove unordered shared closed linearSpace degree allOn completed equation equations number project clean restriction directions leastPoint projection encodeFactors encodeProducts encodeForm flatMap keep spans pointsOf bases candidatesOf candidatesFrom candidates everyPoint somePoint cannotGrow isPrime recordOf recordsOf listingFault passage listing answer listingRoom placeFactor canonicalProduct substituteMask substituteFactor substituteProduct primesOf covered firstHolding takenFor takenThrough chosen writtenProduct formOf writtenForm
+unfolding examples example five fiveForm sixRecords reply completeAnswer completeAfter analyseAnswer analyseAfter affineAnswer affineAfter handedOver writeAnswer writeAfter formBytes formSizeFault completedPoints holds all select bit halvings lead oddIn odd clear reduce place join insert inserts reduces irreducible reducedBasis isLead placesAt firstFault tableTests badCount outside notAbove unordered shared closed linearSpace degree allOn completed equation equations number project clean restriction directions leastPoint projection encodeFactors encodeProducts encodeForm flatMap keep spans pointsOf bases candidatesOf candidatesFrom candidates everyPoint somePoint cannotGrow isPrime recordOf recordsOf listingFault passage listing listingAnswer listingAfter placeFactor canonicalProduct substituteMask substituteFactor substituteProduct primesOf covered firstHolding takenFor takenThrough chosen writtenProduct formOf writtenForm
 computed = refl

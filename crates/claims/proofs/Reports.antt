@@ -28,7 +28,7 @@ use Rattle.writing.specs.declared.FormWritten.{FormWritten}
 use Rattle.writing.specs.Writing.{formBytes, formTests, writeAccepted, writeAnswer, writeAfter}
 use Rattle.analysis.specs.declared.Completion.{Completion}
 use Rattle.analysis.specs.declared.Analysis.{Analysis}
-use Rattle.analysis.specs.Spaces.{linearSpaceTests, linearSpaceAccepted, linearSpaceRefused, linearSpaceAnswer, completedRestriction, completeAccepted, completeAnswer, completeRoom, analyseAccepted, analyseAnswer, analyseRoom}
+use Rattle.analysis.specs.Spaces.{linearSpaceTests, linearSpaceAccepted, linearSpaceRefused, linearSpaceAnswer, completedRestriction, completeAccepted, completeAnswer, completeAfter, analyseAccepted, analyseAnswer, analyseAfter}
 use Rattle.claims.specs.Demand1.{lent, Decides}
 use Rattle.claims.proofs.Demand1.{demand1}
 
@@ -66,7 +66,7 @@ table-accepted n on free h = accepted n on free (no-fault (tableTests n on free)
 
 module _ (n : ℕ) (on free room : List ℕ) where
   pub complete-gave : completeAnswer n on free room .refusal ≡ 0
-      → Gave (completeAnswer n on free room) (completeAccepted n on free) (take (completeAnswer n on free room .count) (completeRoom n on free room)) (completedPoints n on free)
+      → Gave (completeAnswer n on free room) (completeAccepted n on free) (take (completeAnswer n on free room .count) (completeAfter n on free room)) (completedPoints n on free)
   complete-gave = gave (demand1 .complete n on free room) (λ (r : Completion). r .count) refl
 
   pub complete-table : completeAnswer n on free room .refusal ≡ 0 → Accepted n on free
@@ -75,7 +75,7 @@ module _ (n : ℕ) (on free room : List ℕ) where
       (none-first (tableTests n on free) (roomTest (completedPoints n on free) room) (demand1 .complete n on free room .exact .accepted .0 e))
 
   pub analyse-gave : analyseAnswer n on free room .refusal ≡ 0
-      → Gave (analyseAnswer n on free room) (analyseAccepted n on free) (take (analyseAnswer n on free room .count) (analyseRoom n on free room)) (completedRestriction n on free)
+      → Gave (analyseAnswer n on free room) (analyseAccepted n on free) (take (analyseAnswer n on free room .count) (analyseAfter n on free room)) (completedRestriction n on free)
   analyse-gave = gave (demand1 .analyse n on free room) (λ (r : Analysis). r .count) refl
 
   pub write-gave : writeAnswer n on free room .refusal ≡ 0
@@ -102,7 +102,7 @@ module _ (bytes room : List ℕ) where
 -- ---- `linear_space` of a function's points
 
 pub space-gave : (n : ℕ) (on : List ℕ) → Accepted n on [] → linearSpaceAnswer n on ≡ linearSpaceAccepted n on
-unfolding tableFault
+unfolding tableFault linearSpaceAnswer
 space-gave n on a = decide-accepted (linearSpaceTests n on) (linearSpaceAccepted n on) linearSpaceRefused (no-refusal n on [] a)
 
 -- The points of a function are a table without free points, with the function's linear space.

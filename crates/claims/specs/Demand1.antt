@@ -24,7 +24,7 @@ use Rattle.form.specs.declared.FormRewrite.{FormRewrite}
 use Rattle.form.specs.Reading.{pointsRead, pointsTests, acceptedPoints, pointsAnswer, pointsAfter, rewritten, rewriteTests, acceptedRewrite, rewriteAnswer, rewriteAfter}
 use Rattle.cubes.specs.Lists.{keep}
 use Rattle.cubes.specs.Records.{recordsOf}
-use Rattle.cubes.specs.Listing.{listing, listingTests, Answer, accepting, answer, listingRoom}
+use Rattle.cubes.specs.Listing.{listing, listingTests, Answer, listingAccepted, listingAnswer, listingAfter}
 use Rattle.listing.specs.Answers.{callOf}
 use Rattle.writing.specs.declared.FormWritten.{FormWritten}
 use Rattle.writing.specs.Writing.{formBytes, writeTests, writeAccepted, writeAnswer, writeAfter}
@@ -36,8 +36,8 @@ use Rattle.analysis.specs.declared.LinearSpace.{LinearSpace}
 use Rattle.analysis.specs.declared.Completion.{Completion}
 use Rattle.analysis.specs.declared.Analysis.{Analysis}
 use Rattle.analysis.specs.declared.AffineSpace.{AffineSpace}
-use Rattle.analysis.specs.Spaces.{linearSpaceTests, linearSpaceAccepted, linearSpaceAnswer, completeTests, completeAccepted, completeAnswer, completeRoom, completedRestriction, analyseTests, analyseAccepted, analyseAnswer, analyseRoom}
-use Rattle.analysis.specs.Affine.{affineProjection, affineTests, affineAccepted, affineAnswer, affineRoom}
+use Rattle.analysis.specs.Spaces.{linearSpaceTests, linearSpaceAccepted, linearSpaceAnswer, completeTests, completeAccepted, completeAnswer, completeAfter, completedRestriction, analyseTests, analyseAccepted, analyseAnswer, analyseAfter}
+use Rattle.analysis.specs.Affine.{affineProjection, affineTests, affineAccepted, affineAnswer, affineAfter}
 
 -- ---- one call
 
@@ -133,22 +133,22 @@ pub record Demand1 : Type 0 where
   pub complete : (n : ℕ) (on free room : List ℕ)
       → Decides (1 ∷ 2 ∷ 3 ∷ 4 ∷ 7 ∷ []) (completeTests n on free room) (λ r. r .refusal) completeOthers
       (completeAccepted n on free) (completeAnswer n on free room)
-      (lent (completedPoints n on free) room (completeRoom n on free room) ∷ [])
+      (lent (completedPoints n on free) room (completeAfter n on free room) ∷ [])
   pub analyse : (n : ℕ) (on free room : List ℕ)
       → Decides (1 ∷ 2 ∷ 3 ∷ 4 ∷ 7 ∷ []) (analyseTests n on free room) (λ r. r .refusal) analyseOthers
       (analyseAccepted n on free) (analyseAnswer n on free room)
-      (lent (completedRestriction n on free) room (analyseRoom n on free room) ∷ [])
+      (lent (completedRestriction n on free) room (analyseAfter n on free room) ∷ [])
   pub affine : (n : ℕ) (on room : List ℕ)
       → Decides (1 ∷ 2 ∷ 3 ∷ 4 ∷ 6 ∷ 7 ∷ []) (affineTests n on room) (λ r. r .refusal) affineOthers
       (affineAccepted n on) (affineAnswer n on room)
-      (lent (affineProjection n on) room (affineRoom n on room) ∷ [])
+      (lent (affineProjection n on) room (affineAfter n on room) ∷ [])
   -- The two calls that take on points alone have no free points, so that their test of number 4 never applies.
   pub never-shared : (on : List ℕ) → shared on [] ≡ false
   -- A listing that runs short of room stops and is not refused: there is no 7.
   pub list-primes : (n : ℕ) (on free : List ℕ) (place allowance : ℕ) (room : List ℕ)
       → Decides (1 ∷ 2 ∷ 3 ∷ 4 ∷ 5 ∷ 9 ∷ []) (listingTests (callOf n on free place allowance room)) (λ r. r .refusal) listingOthers
-      (accepting place (listing (callOf n on free place allowance room))) (answer (callOf n on free place allowance room))
-      (lent (recordsOf (listing (callOf n on free place allowance room) .primes)) room (listingRoom (callOf n on free place allowance room)) ∷ [])
+      (listingAccepted place (listing (callOf n on free place allowance room))) (listingAnswer (callOf n on free place allowance room))
+      (lent (recordsOf (listing (callOf n on free place allowance room) .primes)) room (listingAfter (callOf n on free place allowance room)) ∷ [])
   pub write-form : (n : ℕ) (on free room : List ℕ)
       → Decides (1 ∷ 2 ∷ 3 ∷ 4 ∷ 5 ∷ 7 ∷ []) (writeTests n on free room) (λ r. r .refusal) writeOthers
       (writeAccepted n on free) (writeAnswer n on free room)

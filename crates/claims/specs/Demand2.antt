@@ -29,7 +29,7 @@ use Rattle.writing.specs.Writing.{writeAnswer, writeAfter}
 use Rattle.analysis.specs.declared.LinearSpace.{LinearSpace}
 use Rattle.analysis.specs.declared.Completion.{Completion}
 use Rattle.analysis.specs.declared.Analysis.{Analysis}
-use Rattle.analysis.specs.Spaces.{linearSpaceAnswer, completeAnswer, completeRoom, analyseAnswer, analyseRoom}
+use Rattle.analysis.specs.Spaces.{linearSpaceAnswer, completeAnswer, completeAfter, analyseAnswer, analyseAfter}
 
 -- ---- the calls, and what they report
 
@@ -59,14 +59,14 @@ pub record Reported : Type 0 where
 -- `form_rewrite` on the bytes that `write_form` handed over. The contracts (crates/glospruma/src/lib.rt) say that they return and leave just these.
 unfoldable pub reported : ℕ → List ℕ → List ℕ → RoomsLent → Reported
 reported n on free lent =
-    let points : List ℕ = take (completeAnswer n on free (lent .completing) .count) (completeRoom n on free (lent .completing)) in
+    let points : List ℕ = take (completeAnswer n on free (lent .completing) .count) (completeAfter n on free (lent .completing)) in
     let form : List ℕ = take (writeAnswer n on free (lent .writing) .length) (writeAfter n on free (lent .writing)) in
     record {
       completion = completeAnswer n on free (lent .completing);
       points = points;
       space = linearSpaceAnswer n points;
       analysis = analyseAnswer n on free (lent .analysing);
-      restriction = take (analyseAnswer n on free (lent .analysing) .count) (analyseRoom n on free (lent .analysing));
+      restriction = take (analyseAnswer n on free (lent .analysing) .count) (analyseAfter n on free (lent .analysing));
       written = writeAnswer n on free (lent .writing);
       form = form;
       reading = pointsAnswer form (lent .reading);

@@ -14,7 +14,7 @@ use Rattle.cubes.specs.Lists.{keep}
 use Rattle.cubes.specs.Cubes.{Candidate, degree, pointsOf, Only}
 use Rattle.cubes.specs.Candidates.{candidates}
 use Rattle.cubes.specs.Records.{maxListed, recordLength, recordsOf}
-use Rattle.cubes.specs.Listing.{Table, Call, primeOf, listingFault, accepted, ListingRule, listing, Answer, accepting, answer, listingRoom}
+use Rattle.cubes.specs.Listing.{Table, Call, primeOf, listingFault, accepted, ListingRule, listing, Answer, listingAccepted, listingAnswer, listingAfter}
 use Rattle.cubes.specs.Calls.{handedOver, Obeyed, Refused, primesBehind, PrimeOf}
 use Rattle.cubes.proofs.Lists.{keep-mem, mem-keep, take-mem, keep-append}
 use Rattle.cubes.proofs.Cubes.{degree-most}
@@ -36,13 +36,13 @@ call-obeyed c e = record {
   room = room-on c e ∙ ap₂ (λ (l : List ℕ) (k : ℕ). l ++ drop k (c .room)) (sym front) (size ∙ ap (λ (k : ℕ). recordLength * k) (sym number));
 }
   where
-    a : answer c ≡ accepting (c .place) (listing c)
+    a : listingAnswer c ≡ listingAccepted (c .place) (listing c)
     a = answer-on c e
 
     r : ListingRule (primeOf (c .table)) (drop (c .place) (candidates (c .table .variables))) (c .allowance) (length (c .room)) (listing c)
     r = call-rule c
 
-    number : answer c .records ≡ length (listing c .primes)
+    number : listingAnswer c .records ≡ length (listing c .primes)
     number = ap (λ (a : Answer). a .records) a
 
     small : (d : Candidate) → Mem d (listing c .primes) → degree d ≤ maxListed
@@ -54,7 +54,7 @@ call-obeyed c e = record {
     size : length (recordsOf (listing c .primes)) ≡ recordLength * length (listing c .primes)
     size = records-length (listing c .primes) small
 
-    front : take (recordLength * answer c .records) (listingRoom c) ≡ recordsOf (listing c .primes)
+    front : take (recordLength * listingAnswer c .records) (listingAfter c) ≡ recordsOf (listing c .primes)
     front =
         ap₂ (λ (k : ℕ) (l : List ℕ). take (recordLength * k) l) number (room-on c e)
         ∙ take-at (recordsOf (listing c .primes)) (drop (length (recordsOf (listing c .primes))) (c .room)) (recordLength * length (listing c .primes)) size
@@ -65,7 +65,7 @@ call-refused c e = record {
   number = eqb-false (listingFault c) 0 e;
   numbers = answer-off c e;
   room = room-off c e;
-  handed = ap (λ (a : Answer). take (recordLength * a .records) (listingRoom c)) (answer-off c e);
+  handed = ap (λ (a : Answer). take (recordLength * a .records) (listingAfter c)) (answer-off c e);
 }
 
 -- ---- the primes behind a place

@@ -13,7 +13,7 @@ use Rattle.cubes.specs.Cubes.{Candidate, candidate, spans}
 use Rattle.cubes.specs.Candidates.{bases, candidatesAt, candidatesOf, candidatesFrom, candidates}
 use Rattle.cubes.specs.Primes.{everyPoint, somePoint, cannotGrow, isPrime}
 use Rattle.cubes.specs.Records.{recordOf, recordsOf}
-use Rattle.cubes.specs.Listing.{Table, Call, primeOf, listingFault, passage, listing, Answer, answer, listingRoom}
+use Rattle.cubes.specs.Listing.{Table, Call, primeOf, listingFault, passage, listing, Answer, listingAnswer, listingAfter}
 
 -- ---- the primes of a table
 
@@ -55,18 +55,18 @@ primes-examples = (refl, (refl, (refl, (refl, tt))))
 -- A call, what it returns, and the room as it returns.
 pub record Answered : Type 0 where
   pub call : Call
-  pub answer : Answer
+  pub listingAnswer : Answer
   pub room : List ℕ
 
 pub AnswersHold : List Answered → Type 0
 AnswersHold [] = Unit {0}
-AnswersHold (e ∷ es) = (answer (e .call) ≡ e .answer) × (listingRoom (e .call) ≡ e .room) × AnswersHold es
+AnswersHold (e ∷ es) = (listingAnswer (e .call) ≡ e .listingAnswer) × (listingAfter (e .call) ≡ e .room) × AnswersHold es
 
 -- Table, place, allowance and room; then refusal, next place, passed, records; then the room as the call returns.
 pub answered : Table → ℕ → ℕ → List ℕ → ℕ → ℕ → ℕ → ℕ → List ℕ → Answered
 answered t place allowance room refusal next passed records after = record {
   call = record { table = t; place = place; allowance = allowance; room = room };
-  answer = record { refusal = refusal; next = next; passed = passed; records = records };
+  listingAnswer = record { refusal = refusal; next = next; passed = passed; records = records };
   room = after;
 }
 
@@ -76,7 +76,7 @@ pub answers-p9 : AnswersHold
     ∷ answered (p9 .table) 11 99 (7 ∷ []) 0 11 0 0 (7 ∷ [])
     ∷ answered (p9 .table) 12 0 (7 ∷ []) 9 0 0 0 (7 ∷ [])
     ∷ [])
-unfolding AnswersHold answered table p9 holds all select bit halvings lead clear reduce flatMap keep spans bases candidatesOf candidatesFrom candidates everyPoint somePoint cannotGrow isPrime firstFault tableTests badCount outside notAbove unordered shared recordOf recordsOf listingFault passage listing answer listingRoom
+unfolding AnswersHold answered table p9 holds all select bit halvings lead clear reduce flatMap keep spans bases candidatesOf candidatesFrom candidates everyPoint somePoint cannotGrow isPrime firstFault tableTests badCount outside notAbove unordered shared recordOf recordsOf listingFault passage listing listingAnswer listingAfter
 answers-p9 = (refl, refl, (refl, refl, (refl, refl, tt)))
 
 -- P6: without room, with room for one record and a byte, with room for just all records, and with no allowance.
@@ -88,7 +88,7 @@ pub answers-p6 : AnswersHold
     ∷ 1 ∷ 5 ∷ 2 ∷ 0 ∷ 0 ∷ 0 ∷ 0 ∷ 0 ∷ 1 ∷ 5 ∷ 3 ∷ 0 ∷ 0 ∷ 0 ∷ 0 ∷ 0 ∷ [])
     ∷ answered (p6 .table) 12 0 (replicate 9 9) 0 12 0 0 (replicate 9 9)
     ∷ [])
-unfolding AnswersHold answered table p6 holds all select bit halvings lead clear reduce flatMap keep spans bases candidatesOf candidatesFrom candidates everyPoint somePoint cannotGrow isPrime firstFault tableTests badCount outside notAbove unordered shared recordOf recordsOf listingFault passage listing answer listingRoom
+unfolding AnswersHold answered table p6 holds all select bit halvings lead clear reduce flatMap keep spans bases candidatesOf candidatesFrom candidates everyPoint somePoint cannotGrow isPrime firstFault tableTests badCount outside notAbove unordered shared recordOf recordsOf listingFault passage listing listingAnswer listingAfter
 answers-p6 = (refl, refl, (refl, refl, (refl, refl, (refl, refl, tt))))
 
 -- Refused tables, each for two faults, the first of which is given.
@@ -98,7 +98,7 @@ pub answers-refused : AnswersHold
     ∷ answered (table 2 (1 ∷ 1 ∷ []) (1 ∷ [])) 0 1 (9 ∷ []) 3 0 0 0 (9 ∷ [])
     ∷ answered (table 2 (1 ∷ []) (1 ∷ [])) 12 1 (9 ∷ []) 4 0 0 0 (9 ∷ [])
     ∷ [])
-unfolding AnswersHold answered table holds all select bit halvings lead clear reduce flatMap keep spans bases candidatesOf candidatesFrom candidates everyPoint somePoint cannotGrow isPrime firstFault tableTests badCount outside notAbove unordered shared recordOf recordsOf listingFault passage listing answer listingRoom
+unfolding AnswersHold answered table holds all select bit halvings lead clear reduce flatMap keep spans bases candidatesOf candidatesFrom candidates everyPoint somePoint cannotGrow isPrime firstFault tableTests badCount outside notAbove unordered shared recordOf recordsOf listingFault passage listing listingAnswer listingAfter
 answers-refused = (refl, refl, (refl, refl, (refl, refl, (refl, refl, tt))))
 
 -- ---- the order of candidates

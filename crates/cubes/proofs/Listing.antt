@@ -22,7 +22,7 @@ use Rattle.cubes.specs.Lists.{keep}
 use Rattle.cubes.specs.Cubes.{Candidate, candidate, degree}
 use Rattle.cubes.specs.Candidates.{candidates, candidateCount}
 use Rattle.cubes.specs.Records.{maxListed, recordLength, recordOf, recordsOf}
-use Rattle.cubes.specs.Listing.{Call, primeOf, listingTests, listingFault, accepted, Passage, nothing, passing, writing, passage, Full, ListingRule, listing, refusing, accepting, answer, listingRoom}
+use Rattle.cubes.specs.Listing.{Call, primeOf, listingTests, listingFault, accepted, Passage, nothing, passing, writing, passage, Full, ListingRule, listing, listingRefused, listingAccepted, listingAnswer, listingAfter}
 use Rattle.cubes.proofs.Lists.{keep-append, flatMap-append}
 
 -- ---- records
@@ -157,20 +157,20 @@ pub accepted-place : (c : Call) → accepted c ≡ true → c .place ≤ candida
 unfolding tableTests
 accepted-place c e = ltb-false (candidateCount (c .table .variables)) (c .place) (accepted-is c .0 e _ (inr (inr (inr (inr (inr (inl refl)))))))
 
-pub answer-on : (c : Call) → accepted c ≡ true → answer c ≡ accepting (c .place) (listing c)
-unfolding answer listingFault
-answer-on c e = decide-accepted (listingTests c) (accepting (c .place) (listing c)) refusing (eqb-true (firstFault (listingTests c)) 0 e)
+pub answer-on : (c : Call) → accepted c ≡ true → listingAnswer c ≡ listingAccepted (c .place) (listing c)
+unfolding listingAnswer listingFault
+answer-on c e = decide-accepted (listingTests c) (listingAccepted (c .place) (listing c)) listingRefused (eqb-true (firstFault (listingTests c)) 0 e)
 
-pub answer-off : (c : Call) → accepted c ≡ false → answer c ≡ refusing (listingFault c)
-unfolding answer listingFault
-answer-off c e = decide-refused (listingTests c) (accepting (c .place) (listing c)) refusing (firstFault (listingTests c)) (eqb-false (firstFault (listingTests c)) 0 e) refl
+pub answer-off : (c : Call) → accepted c ≡ false → listingAnswer c ≡ listingRefused (listingFault c)
+unfolding listingAnswer listingFault
+answer-off c e = decide-refused (listingTests c) (listingAccepted (c .place) (listing c)) listingRefused (firstFault (listingTests c)) (eqb-false (firstFault (listingTests c)) 0 e) refl
 
-pub room-on : (c : Call) → accepted c ≡ true → listingRoom c ≡ front (recordsOf (listing c .primes)) (c .room)
-unfolding listingRoom listingFault
+pub room-on : (c : Call) → accepted c ≡ true → listingAfter c ≡ front (recordsOf (listing c .primes)) (c .room)
+unfolding listingAfter listingFault
 room-on c e = decide-accepted (listingTests c) (front (recordsOf (listing c .primes)) (c .room)) (λ number. c .room) (eqb-true (firstFault (listingTests c)) 0 e)
 
-pub room-off : (c : Call) → accepted c ≡ false → listingRoom c ≡ c .room
-unfolding listingRoom listingFault
+pub room-off : (c : Call) → accepted c ≡ false → listingAfter c ≡ c .room
+unfolding listingAfter listingFault
 room-off c e =
     decide-refused (listingTests c) (front (recordsOf (listing c .primes)) (c .room)) (λ number. c .room) (firstFault (listingTests c)) (eqb-false (firstFault (listingTests c)) 0 e) refl
 

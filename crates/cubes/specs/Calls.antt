@@ -12,30 +12,30 @@ use Rattle.cubes.specs.Cubes.{Candidate}
 use Rattle.cubes.specs.Candidates.{candidates, candidateCount}
 use Rattle.cubes.specs.Primes.{Prime}
 use Rattle.cubes.specs.Records.{recordLength, recordsOf}
-use Rattle.cubes.specs.Listing.{Table, Call, primeOf, listingFault, ListingRule, listing, refusing, answer, listingRoom}
+use Rattle.cubes.specs.Listing.{Table, Call, primeOf, listingFault, ListingRule, listing, listingRefused, listingAnswer, listingAfter}
 
 -- ---- one call
 
 -- What a call hands over: the records at the front of its room as it returns, as many as its record count says.
 unfoldable pub handedOver : Call → List ℕ
-handedOver c = take (recordLength * answer c .records) (listingRoom c)
+handedOver c = take (recordLength * listingAnswer c .records) (listingAfter c)
 
 -- An accepted call: it passes exactly as far as the listing rule says, and returns the numbers of that passage, with its records at the front of the
 -- room and the rest of the room as lent.
 pub record Obeyed (c : Call) : Type 0 where
-  pub refusal : answer c .refusal ≡ 0
+  pub refusal : listingAnswer c .refusal ≡ 0
   pub rule : ListingRule (primeOf (c .table)) (drop (c .place) (candidates (c .table .variables))) (c .allowance) (length (c .room)) (listing c)
-  pub passed : answer c .passed ≡ listing c .passed
-  pub next : answer c .next ≡ c .place + answer c .passed
-  pub records : answer c .records ≡ length (listing c .primes)
+  pub passed : listingAnswer c .passed ≡ listing c .passed
+  pub next : listingAnswer c .next ≡ c .place + listingAnswer c .passed
+  pub records : listingAnswer c .records ≡ length (listing c .primes)
   pub handed : handedOver c ≡ recordsOf (listing c .primes)
-  pub room : listingRoom c ≡ handedOver c ++ drop (recordLength * answer c .records) (c .room)
+  pub room : listingAfter c ≡ handedOver c ++ drop (recordLength * listingAnswer c .records) (c .room)
 
 -- A refused call: it returns its number, all other numbers 0, changes nothing lent, and hands over nothing.
 pub record Refused (c : Call) : Type 0 where
   pub number : listingFault c ≢ 0
-  pub numbers : answer c ≡ refusing (listingFault c)
-  pub room : listingRoom c ≡ c .room
+  pub numbers : listingAnswer c ≡ listingRefused (listingFault c)
+  pub room : listingAfter c ≡ c .room
   pub handed : handedOver c ≡ []
 
 -- ---- a table

@@ -8,7 +8,7 @@ use lib.ListN.{length, take, drop}
 use lib.Dec.{ltb, eqb}
 use Rattle.gf2.specs.Finite.{holds}
 use Rattle.table.specs.Refusal.{Test, test, firstFault, sizeFault, placeFault}
-use Rattle.table.specs.Decision.{decide, roomAfter}
+use Rattle.table.specs.Decision.{Decision, answerOf, afterOf}
 use Rattle.table.specs.Table.{tableTests}
 use Rattle.cubes.specs.Lists.{keep}
 use Rattle.cubes.specs.Cubes.{Candidate}
@@ -110,16 +110,19 @@ pub record Answer : Type 0 where
   pub records : ℕ
 
 -- A refusal returns its number with all other numbers 0.
-abbrev pub refusing : ℕ → Answer
-refusing k = record { refusal = k; next = 0; passed = 0; records = 0 }
+abbrev pub listingRefused : ℕ → Answer
+listingRefused k = record { refusal = k; next = 0; passed = 0; records = 0 }
 
 -- An accepted call at the place returns the next place, the number of candidates passed and the number of records written.
-abbrev pub accepting : ℕ → Passage → Answer
-accepting place p = record { refusal = 0; next = place + p .passed; passed = p .passed; records = length (p .primes) }
+abbrev pub listingAccepted : ℕ → Passage → Answer
+listingAccepted place p = record { refusal = 0; next = place + p .passed; passed = p .passed; records = length (p .primes) }
 
-unfoldable pub answer : Call → Answer
-answer c = decide (listingTests c) (accepting (c .place) (listing c)) refusing
+abbrev pub listingCall : Call → Decision Answer
+listingCall c = record { tests = listingTests c; accepted = listingAccepted (c .place) (listing c); refused = listingRefused }
+
+unfoldable pub listingAnswer : Call → Answer
+listingAnswer c = answerOf (listingCall c)
 
 -- The room as the call returns: the records at its front and bytes after the last record as lent; unchanged by a refusal.
-unfoldable pub listingRoom : Call → List ℕ
-listingRoom c = roomAfter (listingTests c) (recordsOf (listing c .primes)) (c .room)
+unfoldable pub listingAfter : Call → List ℕ
+listingAfter c = afterOf (listingCall c) (recordsOf (listing c .primes)) (c .room)

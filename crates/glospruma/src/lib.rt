@@ -5,12 +5,12 @@ ghost use mathlib.Core.Path.{_≡_};
 ghost use lib.ListN.{length};
 ghost use Rattle.stored.specs.Reading.{readAnswer, onAfter, freeAfter};
 ghost use Rattle.form.specs.Reading.{pointsAnswer, pointsAfter, rewriteAnswer, rewriteAfter};
-ghost use Rattle.cubes.specs.Listing.{answer, listingRoom};
+ghost use Rattle.cubes.specs.Listing.{listingAnswer, listingAfter};
 ghost use Rattle.listing.specs.Answers.{callOf, numbersOf};
 ghost use Rattle.writing.specs.Writing.{writeAnswer, writeAfter};
 ghost use Rattle.report.specs.Answer.{reportAnswer, reportAfter};
-ghost use Rattle.analysis.specs.Spaces.{linearSpaceAnswer, completeAnswer, completeRoom, analyseAnswer, analyseRoom};
-ghost use Rattle.analysis.specs.Affine.{affineAnswer, affineRoom};
+ghost use Rattle.analysis.specs.Spaces.{linearSpaceAnswer, completeAnswer, completeAfter, analyseAnswer, analyseAfter};
+ghost use Rattle.analysis.specs.Affine.{affineAnswer, affineAfter};
 use analysis::AffineSpace;
 use analysis::Analysis;
 use analysis::Completion;
@@ -49,7 +49,7 @@ pub extern "C" fn glospruma_complete(
     room: &mut [u16],
 ) -> Completion
     ensures { λ r. ⌜ r ≡ completeAnswer n (now (on .entry)) (now (free .entry)) (now (room .entry)) ⌝ }
-    ensures { λ r. ⌜ now (room .exit) ≡ completeRoom n (now (on .entry)) (now (free .entry)) (now (room .entry)) ⌝ }
+    ensures { λ r. ⌜ now (room .exit) ≡ completeAfter n (now (on .entry)) (now (free .entry)) (now (room .entry)) ⌝ }
 {
     analysis::complete(n, on, free, &mut *room)
 }
@@ -63,7 +63,7 @@ pub extern "C" fn glospruma_analyse(
     room: &mut [u16],
 ) -> Analysis
     ensures { λ r. ⌜ r ≡ analyseAnswer n (now (on .entry)) (now (free .entry)) (now (room .entry)) ⌝ }
-    ensures { λ r. ⌜ now (room .exit) ≡ analyseRoom n (now (on .entry)) (now (free .entry)) (now (room .entry)) ⌝ }
+    ensures { λ r. ⌜ now (room .exit) ≡ analyseAfter n (now (on .entry)) (now (free .entry)) (now (room .entry)) ⌝ }
 {
     analysis::analyse(n, on, free, &mut *room)
 }
@@ -72,7 +72,7 @@ pub extern "C" fn glospruma_analyse(
 #[no_mangle]
 pub extern "C" fn glospruma_affine(n: usize, on: &[u16], room: &mut [u16]) -> AffineSpace
     ensures { λ r. ⌜ r ≡ affineAnswer n (now (on .entry)) (now (room .entry)) ⌝ }
-    ensures { λ r. ⌜ now (room .exit) ≡ affineRoom n (now (on .entry)) (now (room .entry)) ⌝ }
+    ensures { λ r. ⌜ now (room .exit) ≡ affineAfter n (now (on .entry)) (now (room .entry)) ⌝ }
 {
     analysis::affine(n, on, &mut *room)
 }
@@ -106,8 +106,8 @@ pub extern "C" fn glospruma_list_primes(
     allowance: u64,
     room: &mut [u8],
 ) -> Listed
-    ensures { λ r. ⌜ numbersOf r ≡ answer (callOf n (now (on .entry)) (now (free .entry)) place allowance (now (room .entry))) ⌝ }
-    ensures { λ r. ⌜ now (room .exit) ≡ listingRoom (callOf n (now (on .entry)) (now (free .entry)) place allowance (now (room .entry))) ⌝ }
+    ensures { λ r. ⌜ numbersOf r ≡ listingAnswer (callOf n (now (on .entry)) (now (free .entry)) place allowance (now (room .entry))) ⌝ }
+    ensures { λ r. ⌜ now (room .exit) ≡ listingAfter (callOf n (now (on .entry)) (now (free .entry)) place allowance (now (room .entry))) ⌝ }
 {
     listing::list_primes(n, on, free, place, allowance, &mut *room)
 }

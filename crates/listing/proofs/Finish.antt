@@ -15,7 +15,7 @@ use Rattle.cubes.specs.Cubes.{Candidate, degree}
 use Rattle.cubes.specs.Candidates.{candidates, candidatesOf, candidatesFrom, candidateCount}
 use Rattle.cubes.specs.Primes.{isPrime}
 use Rattle.cubes.specs.Records.{maxListed, recordLength, recordsOf}
-use Rattle.cubes.specs.Listing.{Call, primeOf, passage, listing, ListingRule, listingFault, Answer, refusing, answer, listingRoom}
+use Rattle.cubes.specs.Listing.{Call, primeOf, passage, listing, ListingRule, listingFault, Answer, listingRefused, listingAnswer, listingAfter}
 use Rattle.cubes.proofs.Cubes.{degree-most}
 use Rattle.cubes.proofs.Candidates.{candidate-is}
 use Rattle.cubes.proofs.Lists.{mem-append, keep-mem, take-mem}
@@ -31,10 +31,10 @@ use Rattle.listing.proofs.Refusals.{sound-call, sound-few}
 
 -- A refused call.
 module _ (c : Call) (k : ℕ) (e : k ≡ listingFault c) (z : k ≢ 0) where
-  pub refused-numbers : refusing k ≡ answer c
-  refused-numbers = ap refusing e ∙ sym (answer-off c (ne-eqb (listingFault c) 0 (λ q. z (e ∙ q))))
+  pub refused-numbers : listingRefused k ≡ listingAnswer c
+  refused-numbers = ap listingRefused e ∙ sym (answer-off c (ne-eqb (listingFault c) 0 (λ q. z (e ∙ q))))
 
-  pub refused-room : c .room ≡ listingRoom c
+  pub refused-room : c .room ≡ listingAfter c
   refused-room = sym (room-off c (ne-eqb (listingFault c) 0 (λ q. z (e ∙ q))))
 
 -- The masks give the same test.
@@ -70,8 +70,8 @@ counted place passed records = record { refusal = 0; next = place + passed; pass
 pub record Finished (n : ℕ) (on free : List ℕ) (place allowance : ℕ) (lent : List ℕ) (u : State) : Type 0 where
   pub left : u .tally .left ≤ allowance
   pub fits : place + (allowance - u .tally .left) ≤ 26387
-  pub numbers : counted place (allowance - u .tally .left) (u .tally .written) ≡ answer (callOf n on free place allowance lent)
-  pub room : u .room ≡ listingRoom (callOf n on free place allowance lent)
+  pub numbers : counted place (allowance - u .tally .left) (u .tally .written) ≡ listingAnswer (callOf n on free place allowance lent)
+  pub room : u .room ≡ listingAfter (callOf n on free place allowance lent)
 
 module _ (n : ℕ) (on free : List ℕ) (place allowance : ℕ) (room : List ℕ) (e : listingFault (callOf n on free place allowance room) ≡ 0)
     (start : Start) (s : StartsAt n place start) (onMask freeMask : ℕ) (a : MaskOf on onMask) (b : MaskOf free freeMask)

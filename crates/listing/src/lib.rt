@@ -6,7 +6,7 @@ ghost use Prim.Native.Nat.{_≤_};
 ghost use lib.ListN.{length};
 ghost use Rattle.cubes.specs.Candidates.{candidatesOf, candidateCount};
 ghost use Rattle.cubes.specs.Records.{maxListed};
-ghost use Rattle.cubes.specs.Listing.{listingFault, answer, listingRoom};
+ghost use Rattle.cubes.specs.Listing.{listingFault, listingAnswer, listingAfter};
 ghost use Rattle.listing.specs.Starts.{StartsAt};
 ghost use Rattle.listing.specs.Answers.{callOf, numbersOf};
 use cubes::MAX_LISTED;
@@ -143,8 +143,8 @@ pub fn list_primes(
     allowance: u64,
     room: &mut [u8],
 ) -> Listed
-    ensures { λ r. ⌜ numbersOf r ≡ answer (callOf n (now (on .entry)) (now (free .entry)) place allowance (now (room .entry))) ⌝ }
-    ensures { λ r. ⌜ now (room .exit) ≡ listingRoom (callOf n (now (on .entry)) (now (free .entry)) place allowance (now (room .entry))) ⌝ }
+    ensures { λ r. ⌜ numbersOf r ≡ listingAnswer (callOf n (now (on .entry)) (now (free .entry)) place allowance (now (room .entry))) ⌝ }
+    ensures { λ r. ⌜ now (room .exit) ≡ listingAfter (callOf n (now (on .entry)) (now (free .entry)) place allowance (now (room .entry))) ⌝ }
 {
     let fault = listing_fault(n, on, free, place);
     if fault != 0 {

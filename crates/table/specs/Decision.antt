@@ -19,6 +19,19 @@ front answer room = answer ++ drop (length answer) room
 abbrev pub roomAfter : {A : Type 0} → List Test → List A → List A → List A
 roomAfter tests answer room = decide tests (front answer room) (λ number. room)
 
+-- A public call on given arguments: its tests in their order, what it returns where none applies, and what it returns with a refusal number.
+pub record Decision (A : Type 0) : Type 0 where
+  pub tests : List Test
+  pub accepted : A
+  pub refused : ℕ → A
+
+-- What the call returns, and what a room holds afterwards to which it writes an answer: both by the one decision.
+abbrev pub answerOf : {A : Type 0} → Decision A → A
+answerOf d = decide (d .tests) (d .accepted) (d .refused)
+
+abbrev pub afterOf : {A B : Type 0} → Decision A → List B → List B → List B
+afterOf d answer room = roomAfter (d .tests) answer room
+
 -- Refusal 7, the last test of a call with a room: the answer is longer than its lent room.
 abbrev pub roomTest : {A : Type 0} → List A → List A → List Test
 roomTest answer room = test roomFault (ltb (length room) (length answer)) ∷ []

@@ -4,7 +4,7 @@ use mathlib.Core.List.{List, [], _∷_, _++_}
 use Prim.Native.Nat.{ℕ}
 use lib.ListN.{length}
 use Rattle.table.specs.Refusal.{Test, test, sizeFault}
-use Rattle.table.specs.Decision.{decide, roomAfter, roomTest}
+use Rattle.table.specs.Decision.{Decision, answerOf, afterOf, roomTest}
 use Rattle.table.specs.Table.{tableTests}
 use Rattle.form.specs.Encoding.{encodeForm}
 use Rattle.cover.specs.WrittenForm.{writtenForm, formSizeFault}
@@ -30,10 +30,13 @@ writeAccepted n on free = record { refusal = 0; length = length (formBytes n on 
 abbrev pub writeRefused : ℕ → FormWritten
 writeRefused number = record { refusal = number; length = 0; products = 0 }
 
--- The numbers returned.
+-- The call, and the numbers that it returns.
+abbrev pub writeCall : ℕ → List ℕ → List ℕ → List ℕ → Decision FormWritten
+writeCall n on free room = record { tests = writeTests n on free room; accepted = writeAccepted n on free; refused = writeRefused }
+
 unfoldable pub writeAnswer : ℕ → List ℕ → List ℕ → List ℕ → FormWritten
-writeAnswer n on free room = decide (writeTests n on free room) (writeAccepted n on free) writeRefused
+writeAnswer n on free room = answerOf (writeCall n on free room)
 
 -- The room after the call: the bytes at its front and the rest as lent, or all as lent.
 unfoldable pub writeAfter : ℕ → List ℕ → List ℕ → List ℕ → List ℕ
-writeAfter n on free room = roomAfter (writeTests n on free room) (formBytes n on free) room
+writeAfter n on free room = afterOf (writeCall n on free room) (formBytes n on free) room
