@@ -1,10 +1,10 @@
 -- The definitions as a loop meets them: one element, one place or one point more. `take`, `suc` and `getD` stand as in the kit's lib.Seq.
 -- The steps of a selection and of a basis that grows by insertion are in gf2. Read next: Examples.
-use mathlib.Core.Path.{_≡_, refl, sym, ap, _∙_, subst, subst⁻¹}
+use mathlib.Core.Path.{_≡_, refl, sym, ap, _∙_, subst}
 use mathlib.Core.Bool.{Bool, true, false, cond, _&&_}
 use mathlib.Core.Logic.{_≢_}
 use mathlib.Core.List.{List, [], _∷_, _++_, map}
-use Prim.Native.Nat.{ℕ, suc, _+_, _*_, _^_, _≤_, _<_}
+use Prim.Native.Nat.{ℕ, suc, _+_, _*_, _^_, _<_}
 use native.Mathlib.Nat.{add-mul, mul-assoc, one-mul, zero-mul, pow-suc}
 use native.Mathlib.Omega.{arith}
 use lib.ListN.{length, take, getD}
@@ -13,21 +13,17 @@ use lib.Dec.{eqb}
 use lib.Bits.{bitAnd, xor-comm, xor-self}
 use borrow.Author.Tests.{eqb-true, eq-eqb}
 use Rattle.gf2.specs.Bits.{_⊕_, bit, lead, hasLead}
-use Rattle.gf2.specs.Limits.{maxVariables}
-use Rattle.gf2.specs.Finite.{Mem, select}
+use Rattle.gf2.specs.Finite.{Mem}
 use Rattle.gf2.specs.Basis.{Reduced, reduce, insert, inserts, isLead, leadMask, placesAt}
 use Rattle.gf2.proofs.Logic.{same}
 use Rattle.gf2.proofs.Xor.{bit-and, bit-ext, bit-zero, xor-assoc}
 use Rattle.gf2.proofs.Reduce.{hasLead-reduce}
-use Rattle.gf2.proofs.Insert.{insert-known, inserts-snoc, inserts-reduced, inserts-below}
+use Rattle.gf2.proofs.Insert.{insert-known, inserts-snoc}
 use Rattle.gf2.proofs.Variables.{isLead-at, isLead-off, bit-leadMask}
 use Rattle.space.specs.Restriction.{equation, number, project, clean}
 use Rattle.space.specs.Affine.{directions, leastPoint}
 use Rattle.space.proofs.Restriction.{number-step, clean-at, clean-of}
-use Rattle.gf2.proofs.Finite.{map-take, select-mem}
-use Rattle.basis.specs.declared.Basis.{Basis}
-use Rattle.basis.specs.Reduced.{basisOf, IsBasis}
-use Rattle.basis.proofs.Values.{is-basis}
+use Rattle.gf2.proofs.Finite.{map-take}
 
 -- ---- numbers bit by bit, the highest first
 
@@ -117,13 +113,6 @@ clean-mask bs r w = same (clean bs w) (eqb (bitAnd (leadMask bs) w) 0)
 pub mask-reducible : (bs : List ℕ) → Reduced bs → (v : ℕ) → bitAnd (leadMask bs) v ≢ 0 → reduce bs v ≢ v
 mask-reducible bs r v n e =
     n (eqb-true (bitAnd (leadMask bs) v) 0 (sym (clean-mask bs r v) ∙ clean-of bs v (λ c m. subst (λ (x : ℕ). hasLead c x ≡ false) e (hasLead-reduce bs r v c m))))
-
--- ---- the basis of the vectors below v that pass a test
-
-pub select-basis : (f : ℕ → Bool) (v : ℕ) → v ≤ 2 ^ maxVariables → (b : Basis) → b ≡ basisOf (inserts [] (select f v)) → IsBasis b
-select-basis f v h b e = subst⁻¹ IsBasis e
-    (is-basis (inserts [] (select f v)) (inserts-reduced [] (select f v) tt)
-    (inserts-below maxVariables (select f v) (λ w m. omega (arith, select-mem f v w m .0))))
 
 -- ---- the smallest affine space point by point
 

@@ -3,9 +3,8 @@
 use mathlib.Core.Path.{_≡_}
 use mathlib.Core.Bool.{Bool, false}
 use mathlib.Core.List.{List}
-use Prim.Native.Nat.{ℕ, _^_, _≤_, _<_}
+use Prim.Native.Nat.{ℕ, _^_, _<_}
 use lib.ListN.{getD}
-use Rattle.gf2.specs.Limits.{maxVariables}
 use Rattle.gf2.specs.Bits.{_⊕_}
 use Rattle.gf2.specs.Finite.{Mem, Rising}
 use Rattle.space.specs.declared.Witness.{Witness}
@@ -34,6 +33,5 @@ Answers f m vs None = (u : ℕ) → Mem u vs → (q : ℕ) → q < m → Agrees 
 
 -- Vectors that can be searched: they rise and have n variables.
 pub record Searchable (n : ℕ) (vs : List ℕ) : Type 0 where
-  pub few : n ≤ maxVariables
   pub rises : Rising vs
   pub below : (v : ℕ) → Mem v vs → v < 2 ^ n

@@ -23,6 +23,7 @@ pub enum Witness {
 
 // The first break of closure, in rising order of vector and then point, over the given vectors and all points.
 pub fn first_witness(flags: &[bool; MAX_POINTS], n: usize, vectors: &[u16]) -> Witness
+    requires { ⌜ n ≤ maxVariables ⌝ }
     requires { ⌜ Searchable n (now vectors) ⌝ }
     ensures { λ r. ⌜ Answers (flagged (now (flags .entry))) (2 ^ n) (now (vectors .entry)) r ⌝ }
 {

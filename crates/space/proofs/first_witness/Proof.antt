@@ -66,12 +66,12 @@ module _ (c : tie.In-loop Inv-loop μ-loop Inv-search μ-search) where
       let i = v .before .before .before .search .i in
       let s = v .before .before .before .before .before .before .before in
       let vs = s .args .vectors .now in
-      omega (arith, v .flag-place2 .ensures, s .pre .below (getD vs i 0) (getD-mem vs i 0 (v .before .before .search-test .taken)), pow-mono (s .pre .few))
+      omega (arith, v .flag-place2 .ensures, s .pre .1 .below (getD vs i 0) (getD-mem vs i 0 (v .before .before .search-test .taken)), pow-mono (s .pre .0))
 
   point-room : c .before .loop .p < maxPoints
   point-room =
       let f = c .before .before .before .before .before .before in
-      omega (arith, vector-room, f .flag-place .ensures, f .before .point-count .ensures, pow-mono (f .before .before .before .pre .few))
+      omega (arith, vector-room, f .flag-place .ensures, f .before .point-count .ensures, pow-mono (f .before .before .before .pre .0))
 
   sum-room : c .before .loop .p ⊕ c .before .before .flag-place2 .result < maxPoints
   sum-room = xor-lt maxVariables (c .before .loop .p) (c .before .before .flag-place2 .result) point-room vector-room
@@ -138,7 +138,7 @@ returns-2 c =
       vector = getD-mem vs (o .i) 0 (v .before .before .search-test .taken);
       point = omega (arith, c .before .before .before .loop-test .taken, g .flag-place .ensures, g .before .point-count .ensures);
       breaks = λ e. clash (eq-beq _ _ (subst⁻¹ (λ (w : ℕ). Agrees f w (h .p)) (v .flag-place2 .ensures) e)) (not-true _ (c .if1 .taken));
-      vectors = λ u m l. o .inv .1 u (rising-before vs (o .i) (s .pre .rises) u m l);
+      vectors = λ u m l. o .inv .1 u (rising-before vs (o .i) (s .pre .1 .rises) u m l);
       points = λ q l. subst (λ (w : ℕ). Agrees f w q) (v .flag-place2 .ensures) (h .inv .1 q l);
     }
 

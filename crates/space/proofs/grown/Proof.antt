@@ -14,13 +14,12 @@ use Rattle.gf2.specs.Basis.{insert, inserts}
 use Rattle.gf2.proofs.Insert.{inserts-on, inserts-off}
 use Rattle.basis.specs.declared.Basis.{Basis}
 use Rattle.basis.specs.Reduced.{vectorsOf, basisOf}
-use Rattle.basis.proofs.Values.{vectors-back}
+use Rattle.basis.proofs.Values.{vectors-back, select-basis}
 use Rattle.space.specs.declared.Witness.{Witness}
 use Rattle.space.specs.declared.Witness.the-variants.{At, None}
 use Rattle.space.specs.Closure.{closed}
 use Rattle.space.specs.Witness.{flagged, FirstWitness, Answers}
 use Rattle.space.proofs.Closure.{closed-of, closed-broken}
-use Rattle.space.proofs.Steps.{select-basis}
 use Rattle.space.proofs.grown.Statement.{statement}
 use Rattle.space.proofs.grown.Tie as tie
 
@@ -54,7 +53,7 @@ slice-aggregate-first-witness c = search needs
 first-witness-requires : tie.Need-first-witness-requires
 first-witness-requires c κs =
     let s = c .before in
-    record { few = s .pre .0; rises = (λ b m. absurd m, tt); below = λ u m. elim m [ inl e ↦ rw e (s .pre .1 .0) | inr k ↦ absurd k ] }
+    (s .pre .0, record { rises = (λ b m. absurd m, tt); below = λ u m. elim m [ inl e ↦ rw e (s .pre .1 .0) | inr k ↦ absurd k ] })
 
 enum-told : tie.Need-enum-told
 enum-told c = search needs

@@ -22,12 +22,12 @@ use Rattle.gf2.proofs.ReducedBasis.{units-mem, mem-units, units-below, units-re
 use Rattle.basis.specs.declared.Basis.{Basis}
 use Rattle.basis.specs.Short.{padded}
 use Rattle.basis.specs.Reduced.{vectorsOf, basisOf, Built}
-use Rattle.basis.proofs.Values.{vectors-back, built}
+use Rattle.basis.proofs.Values.{vectors-back, built, select-basis}
 use Rattle.space.specs.declared.Witness.the-variants.{None}
 use Rattle.space.specs.Closure.{closed, linearSpace}
 use Rattle.space.specs.Witness.{flagged, FirstWitness, Answers, Searchable}
 use Rattle.space.proofs.Closure.{closed-of, closed-broken, closed-space, closed-units, linear-reduced, linear-span, linear-below, linear-inserts}
-use Rattle.space.proofs.Steps.{mask-reducible, select-basis}
+use Rattle.space.proofs.Steps.{mask-reducible}
 use Rattle.space.proofs.linear_space.Statement.{statement}
 use Rattle.space.proofs.linear_space.Tie as tie
 
@@ -49,8 +49,8 @@ lent : (n : ℕ) (b : Basis) → b ≡ basisOf (units n) → take n (b .vectors)
 lent n b e =
     ap (λ (x : Basis). take n (x .vectors)) e ∙ subst (λ (k : ℕ). take k (padded (units n)) ≡ units n) (units-length n) (vectors-back (units n))
 
-searchable : (n : ℕ) → n ≤ maxVariables → Searchable n (units n)
-searchable n h = record { few = h; rises = reduced-rising (units n) (units-reduced n); below = units-below n }
+searchable : (n : ℕ) → Searchable n (units n)
+searchable n = record { rises = reduced-rising (units n) (units-reduced n); below = units-below n }
 
 module _ (n : ℕ) (f : ℕ → Bool) where
   -- No witness: the full basis is the linear space.
@@ -118,7 +118,7 @@ first-witness-requires : tie.Need-first-witness-requires Inv-loop μ-loop
 first-witness-requires c κs =
     let s = c .before .before .before in
     let f = c .before .before .full in
-    rw (lent (s .args .n) (f .result) (f .ensures .value)) (searchable (s .args .n) (s .pre))
+    (s .pre, rw (lent (s .args .n) (f .result) (f .ensures .value)) (searchable (s .args .n)))
 
 enum-known-a : tie.Need-enum-known-a Inv-loop μ-loop
 enum-known-a c = search needs

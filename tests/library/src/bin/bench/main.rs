@@ -52,10 +52,11 @@ fn linear_space(title: &str, tables: &[Table]) {
 /// Times the linear space call on functions of twelve variables.
 fn linear_spaces() {
     linear_space("n 12, random", &random_tables(50, 0));
-    let cases: [(&str, fn(u16) -> bool); 6] = [
+    let cases: [(&str, fn(u16) -> bool); 7] = [
         ("on 4095 alone", |point| point == LAST),
         ("x1", |point| point >= X1),
         ("x1 but for 4095", |point| point >= X1 && point != LAST),
+        ("x1 to x6 all set", |point| point >> 6 == 63),
         ("parity", |point| point.count_ones() % 2 == 1),
         ("none on", |_| false),
         ("all on", |_| true),
