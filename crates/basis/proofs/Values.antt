@@ -1,5 +1,6 @@
 -- Laws of short lists and bases by value: one number put behind the others, and the list read back.
-use mathlib.Core.Path.{_≡_, refl, sym, ap, _∙_, subst}
+use mathlib.Core.Path.{_≡_, refl, sym, ap, _∙_, subst, subst⁻¹}
+use mathlib.Core.Bool.{Bool}
 use mathlib.Core.Logic.{_↔_}
 use mathlib.Core.List.{List, [], _∷_, _++_, append-assoc}
 use Prim.Native.Nat.{ℕ, suc, _+_, _-_, _^_, _≤_, _<_}
@@ -8,12 +9,12 @@ use native.Mathlib.Omega.{arith}
 use lib.ListN.{length, take, drop, set, getD, replicate, length-append, drop-of-length-le}
 use lib.Seq.{take-append-seam, set-append-seam, drop-cons, getD-take}
 use Rattle.gf2.specs.Limits.{maxVariables}
-use Rattle.gf2.specs.Finite.{Mem}
+use Rattle.gf2.specs.Finite.{Mem, select}
 use Rattle.gf2.specs.Span.{Span}
-use Rattle.gf2.specs.Basis.{Reduced, insert}
-use Rattle.gf2.proofs.Finite.{getD-mem}
+use Rattle.gf2.specs.Basis.{Reduced, insert, inserts}
+use Rattle.gf2.proofs.Finite.{getD-mem, select-mem}
 use Rattle.gf2.proofs.Reduce.{reduced-length, reduced-pos}
-use Rattle.gf2.proofs.Insert.{insert-reduced, insert-span, insert-below}
+use Rattle.gf2.proofs.Insert.{insert-reduced, insert-span, insert-below, inserts-reduced, inserts-below}
 use Rattle.basis.specs.declared.Basis.{Basis}
 use Rattle.basis.specs.declared.ShortList.{ShortList}
 use Rattle.basis.specs.Short.{listed, short}
@@ -104,3 +105,9 @@ inserted b k v h r e =
     let bs = vectorsOf b in
     subst (λ (x : Basis). Built x (insert bs v) (Span (v ∷ bs))) (sym e)
     (built (insert bs v) (Span (v ∷ bs)) (insert-reduced bs v (k .reduced)) (insert-below maxVariables bs v (k .below) h) (insert-span bs v))
+
+-- The vectors below v that pass a test, put in one at a time.
+pub select-basis : (f : ℕ → Bool) (v : ℕ) → v ≤ 2 ^ maxVariables → (b : Basis) → b ≡ basisOf (inserts [] (select f v)) → IsBasis b
+select-basis f v h b e = subst⁻¹ IsBasis e
+    (is-basis (inserts [] (select f v)) (inserts-reduced [] (select f v) tt)
+    (inserts-below maxVariables (select f v) (λ w m. omega (arith, select-mem f v w m .0))))

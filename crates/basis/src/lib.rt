@@ -3,10 +3,9 @@
 ghost use mathlib.Core.Path.{_≡_};
 ghost use mathlib.Core.List.{[], _∷_, _++_};
 ghost use Prim.Native.Nat.{ℕ, _+_, _≤_, _<_, _^_, min, max};
-ghost use lib.Dec.{eqb};
 ghost use lib.ListN.{length};
 ghost use Rattle.gf2.specs.Limits.{maxVariables};
-ghost use Rattle.gf2.specs.Bits.{bit};
+ghost use Rattle.gf2.specs.Bits.{bit, indexOf};
 ghost use Rattle.gf2.specs.Span.{Span};
 ghost use Rattle.gf2.specs.Basis.{reduce, join, insert, units, leadMask, placesAt, canonicalPlaces, variablesAt};
 ghost use Rattle.basis.specs.Short.{listed, short};
@@ -68,13 +67,6 @@ impl Basis {
         len: 0,
     };
 
-    // The empty basis spans the vector 0 alone.
-    pub fn empty() -> Basis
-        ensures { λ r. ⌜ Built r [] (λ (x : ℕ). x ≡ 0) ⌝ }
-    {
-        Basis::EMPTY
-    }
-
     // The full basis of n variables spans all their points.
     pub fn full(n: usize) -> Basis
         requires { ⌜ n ≤ maxVariables ⌝ }
@@ -104,14 +96,6 @@ impl Basis {
             i += 1;
         }
         x
-    }
-
-    // Whether the vector is in the space.
-    pub fn contains(self, v: u16) -> bool
-        requires { ⌜ IsBasis self ⌝ }
-        ensures { λ r. ⌜ r ≡ eqb (reduce (vectorsOf self) v) 0 ⌝ }
-    {
-        self.reduce(v) == 0
     }
 
     // The basis with r put in at its place and its lead bit cleared in the others; r is reduced and not 0.
@@ -188,7 +172,16 @@ impl Basis {
     }
 }
 
-// The variables of n whose bit is set in the mask, by index, rising. x1 is the highest bit.
+// The index of the variable at a place of a point of n variables: x1 is the highest bit.
+fn index_of(n: usize, place: usize) -> u16
+    requires { ⌜ n ≤ maxVariables ⌝ }
+    requires { ⌜ place < n ⌝ }
+    ensures { λ r. ⌜ r ≡ indexOf n place ⌝ }
+{
+    (n - place) as u16
+}
+
+// The variables of n whose bit is set in the mask, by index, rising.
 pub fn variables_of(mask: u16, n: usize) -> ShortList
     requires { ⌜ n ≤ maxVariables ⌝ }
     ensures { λ r. ⌜ r ≡ short (variablesAt n (placesAt n (λ (k : ℕ). bit k mask))) ⌝ }
@@ -198,7 +191,7 @@ pub fn variables_of(mask: u16, n: usize) -> ShortList
     while k > 0 {
         k -= 1;
         if gf2::bit(k as u32, mask) {
-            found = found.push((n - k) as u16);
+            found = found.push(index_of(n, k));
         }
     }
     found

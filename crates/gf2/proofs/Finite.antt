@@ -157,6 +157,13 @@ select-rising f (suc k) = cond-cases Rising (f k) (select f k ++ (k ∷ [])) (se
     (λ e. ordered-append _<_ (select f k) (k ∷ []) (select-rising f k) (λ b m. absurd m, tt)
     (λ a b x y. elim y [ inl q ↦ rw q (select-mem f k a x .0) | inr z ↦ absurd z ])) (λ e. select-rising f k)
 
+-- What is below an element of a rising list stands before it.
+pub rising-before : (l : List ℕ) (i : ℕ) → Rising l → (x : ℕ) → Mem x l → x < getD l i 0 → Mem x (take i l)
+rising-before (a ∷ l) zero r x (inl e) h = absurd (omega arith)
+rising-before (a ∷ l) zero r x (inr m) h = absurd (omega (arith, r .0 x m))
+rising-before (a ∷ l) (suc i) r x (inl e) h = inl e
+rising-before (a ∷ l) (suc i) r x (inr m) h = inr (rising-before l i (r .1) x m h)
+
 -- ---- one element more at the end of a list
 
 pub map-snoc : {A B : Type 0} (f : A → B) (l : List A) (a : A) → map f (l ++ (a ∷ [])) ≡ map f l ++ (f a ∷ [])

@@ -13,15 +13,15 @@ use lib.ListN.{length, length-map}
 use lib.Bits.{xor-comm}
 use borrow.Author.Tests.{ltb-true, ltb-false, eqb-true, eqb-false, lt-ltb, eq-eqb, ne-eqb}
 use Rattle.gf2.specs.Bits.{_⊕_, lead, hasLead}
-use Rattle.gf2.specs.Finite.{Mem, select}
+use Rattle.gf2.specs.Finite.{Mem, select, In}
 use Rattle.gf2.specs.Span.{Span, Space}
 use Rattle.gf2.specs.Basis.{LeadsApart, Reduced, clear, reduce, place, join, insert, inserts}
 use Rattle.gf2.proofs.Logic.{cond-cases}
-use Rattle.gf2.proofs.Finite.{cons-all, map-mem, mem-map, select-on, select-off}
-use Rattle.gf2.proofs.Xor.{xor-cancel}
+use Rattle.gf2.proofs.Finite.{cons-all, map-mem, mem-map, select-mem, mem-select, select-on, select-off}
+use Rattle.gf2.proofs.Xor.{xor-cancel, xor-cancel-l}
 use Rattle.gf2.proofs.Leads.{Lead, lead-is, lead-pos, lead-xor, lead-eq, lead-below, lead-lt, lead-rise, lead-under, hasLead-ne}
 use Rattle.gf2.proofs.Span.{span-mem, span-xor, span-space, span-least, span-below, span-exchange}
-use Rattle.gf2.proofs.Reduce.{clear-cases, bit-clear, hasLead-clear, apart, reduced-pos, reduce-span, span-reduce, reduce-zero, hasLead-reduce}
+use Rattle.gf2.proofs.Reduce.{clear-cases, bit-clear, hasLead-clear, apart, reduced-pos, reduce-span, span-reduce, reduce-zero, reduce-le, hasLead-reduce}
 use Rattle.gf2.proofs.Unique.{unique}
 
 -- ---- placing a vector
@@ -269,10 +269,28 @@ inserts-skip f k s = go (f k) refl
     go true e = inserts-on f k e ∙ insert-known (inserts [] (select f k)) k (inserts-reduced [] (select f k) tt) s
     go false e = inserts-off f k e
 
--- So may the vector 0, and a loop may start at 1.
-pub inserts-one : (f : ℕ → Bool) → inserts [] (select f 1) ≡ []
-unfolding inserts select
-inserts-one f = inserts-skip f 0 refl
+-- So may, of a space, a vector that the basis reduces: it is selected exactly if the smaller vector is to which it reduces.
+pub inserts-reducible : (n : ℕ) (f : ℕ → Bool) → Space (In n f) → (k : ℕ) → k < 2 ^ n → reduce (inserts [] (select f k)) k ≢ k
+    → inserts [] (select f (suc k)) ≡ inserts [] (select f k)
+inserts-reducible n f s k h ne = go (f k) refl
+  where
+    bs : List ℕ
+    bs = inserts [] (select f k)
+
+    -- What reduction took away is selected, since the basis is of selected vectors.
+    gone : In n f (k ⊕ reduce bs k)
+    gone = inserts-least (In n f) s [] (select f k) (λ x e. rw e (s .origin))
+        (λ v m. let i = select-mem f k v m in (omega (arith, i .0), i .1)) (k ⊕ reduce bs k) (reduce-span bs k)
+
+    rest : f k ≡ true → Span bs (reduce bs k)
+    rest e =
+        let i : In n f (reduce bs k) = subst (In n f) (xor-cancel-l k (reduce bs k)) (s .sums k (k ⊕ reduce bs k) (h, e) gone) in
+        inserts-mem [] (select f k) (reduce bs k)
+        (mem-select f k (reduce bs k) (lt-of-le-ne (reduce-le bs (inserts-reduced [] (select f k) tt) k) ne) (i .1))
+
+    go : (t : Bool) → f k ≡ t → inserts [] (select f (suc k)) ≡ inserts [] (select f k)
+    go true e = inserts-skip f k (subst (Span bs) (xor-cancel k (reduce bs k)) (span-xor bs (k ⊕ reduce bs k) (reduce bs k) (reduce-span bs k) (rest e)))
+    go false e = inserts-off f k e
 
 -- The basis of vectors below 2 ^ n has only such vectors, so at most n of them.
 pub inserts-below : (n : ℕ) (vs : List ℕ) → ((v : ℕ) → Mem v vs → v < 2 ^ n) → (c : ℕ) → Mem c (inserts [] vs) → c < 2 ^ n

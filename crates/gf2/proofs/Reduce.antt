@@ -12,7 +12,7 @@ use lib.Pow.{pow-pos, pow-mono}
 use lib.Bits.{xor-comm, xor-self, xor-zero-r}
 use borrow.Author.Tests.{lt-ltb, le-ltb}
 use Rattle.gf2.specs.Bits.{_⊕_, _⊻_, bit, lead, hasLead}
-use Rattle.gf2.specs.Finite.{Mem}
+use Rattle.gf2.specs.Finite.{Mem, Rising}
 use Rattle.gf2.specs.Span.{Span, Coset, Least}
 use Rattle.gf2.specs.Basis.{LeadsApart, Reduced, clear, reduce}
 use Rattle.gf2.proofs.Xor.{bit-xor, bit-big, xor-assoc, xor-eq, xors}
@@ -87,6 +87,10 @@ apart b c p h e = record {
 pub reduced-pos : (bs : List ℕ) → Reduced bs → (c : ℕ) → Mem c bs → 0 < c
 reduced-pos (b ∷ bs) s c (inl e) = rw e (s .0)
 reduced-pos (b ∷ bs) s c (inr m) = reduced-pos bs (s .2) c m
+
+pub reduced-rising : (bs : List ℕ) → Reduced bs → Rising bs
+reduced-rising [] r = tt
+reduced-rising (b ∷ bs) r = (λ c m. r .1 c m .rises, reduced-rising bs (r .2))
 
 -- The vectors from the i-th on are a reduced basis too.
 pub reduced-drop : (i : ℕ) (bs : List ℕ) → Reduced bs → Reduced (drop i bs)

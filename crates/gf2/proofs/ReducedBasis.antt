@@ -134,7 +134,7 @@ basis-ext n P Q h = select-ext (irreducible P) (irreducible Q) (2 ^ n) (λ v l. 
 
 -- ---- the full basis
 
-units-mem : (n b : ℕ) → Mem b (units n) → (k : ℕ) × (k < n) × (b ≡ 2 ^ k)
+pub units-mem : (n b : ℕ) → Mem b (units n) → (k : ℕ) × (k < n) × (b ≡ 2 ^ k)
 unfolding units
 units-mem zero b m = absurd m
 units-mem (suc n) b m = go (mem-snoc b (units n) (2 ^ n) m) (units-mem n b)
@@ -143,7 +143,7 @@ units-mem (suc n) b m = go (mem-snoc b (units n) (2 ^ n) m) (units-mem n b)
     go (inl i) f = let h = f i in (h .0, omega (arith, h .1), h .2)
     go (inr e) f = (n, omega arith, e)
 
-mem-units : (n k : ℕ) → k < n → Mem (2 ^ k) (units n)
+pub mem-units : (n k : ℕ) → k < n → Mem (2 ^ k) (units n)
 unfolding units
 mem-units zero k h = absurd (omega arith)
 mem-units (suc n) k h = go (ℕ-discrete k n) (mem-units n k)
@@ -177,6 +177,13 @@ units-span n x = (span-below n (units n) (units-below n) x, below-ind (λ (y : �
             let falls = hasLead-lt (2 ^ k) y (pow-pos k) (rw (lead-pow k) (lead-highest y p .set)) in
             subst (Span (units n)) (xor-cancel y (2 ^ k)) (span-xor (units n) (y ⊕ 2 ^ k) (2 ^ k) (ih (y ⊕ 2 ^ k) falls (omega arith))
             (span-mem (units n) (2 ^ k) (mem-units n k (lead-fits n y p h))))
+
+-- So it is what insertion gives of all vectors below 2 ^ n.
+pub units-inserts : (f : ℕ → Bool) (n : ℕ) → ((x : ℕ) → x < 2 ^ n → f x ≡ true) → inserts [] (select f (2 ^ n)) ≡ units n
+units-inserts f n h = inserts-basis (select f (2 ^ n)) (units n) (units-reduced n) (λ x. (
+  λ p. let l = units-span n x .0 p in span-mem (select f (2 ^ n)) x (mem-select f (2 ^ n) x l (h x l)),
+  λ p. units-span n x .1 (span-below n (select f (2 ^ n)) (λ b m. select-mem f (2 ^ n) b m .0) x p),
+))
 
 pub units-length : (n : ℕ) → length (units n) ≡ n
 unfolding units

@@ -10,11 +10,12 @@ use lib.Bits.{xor-zero-r, xor-lt}
 use Rattle.gf2.specs.Bits.{_⊕_}
 use Rattle.gf2.specs.Finite.{Mem, select, In}
 use Rattle.gf2.specs.Span.{Span, Space}
-use Rattle.gf2.specs.Basis.{Reduced, inserts}
+use Rattle.gf2.specs.Basis.{Reduced, inserts, units}
 use Rattle.gf2.proofs.Logic.{beq-eq, eq-beq}
 use Rattle.gf2.proofs.Finite.{all-at, all-of, all-ext}
 use Rattle.gf2.proofs.Xor.{xor-assoc}
-use Rattle.gf2.proofs.ReducedBasis.{basis-reduced, basis-below, basis-span, basis-unique, basis-select, basis-ext}
+use Rattle.gf2.proofs.Span.{span-least}
+use Rattle.gf2.proofs.ReducedBasis.{units-span, basis-reduced, basis-below, basis-span, basis-unique, basis-select, basis-ext}
 use Rattle.space.specs.Closure.{closed, linearSpace}
 
 -- ---- closed under a: for every w below 2 ^ n, f (w ⊕ a) is f w
@@ -27,7 +28,7 @@ pub closed-of : (n : ℕ) (f : ℕ → Bool) (a : ℕ) → ((w : ℕ) → w < 2 
 unfolding closed
 closed-of n f a g = all-of (λ w. Bool·beq (f (w ⊕ a)) (f w)) (2 ^ n) (λ w h. eq-beq (f (w ⊕ a)) (f w) (g w h))
 
--- A point that breaks closure is found exactly if the function is not closed.
+-- With a point that breaks closure the function is not closed.
 pub closed-broken : (n : ℕ) (f : ℕ → Bool) (a w : ℕ) → w < 2 ^ n → (f (w ⊕ a) ≡ f w → ⊥) → closed n f a ≡ false
 closed-broken n f a w h g = go (closed n f a) refl
   where
@@ -46,6 +47,10 @@ closed-space n f = record {
         ap f (sym (xor-assoc w a b)) ∙ closed-at n f b (q .1) (w ⊕ a) (xor-lt n w a h (p .0)) ∙ closed-at n f a (p .1) w h),
   );
 }
+
+-- So a function that is closed under the vectors of one bit below 2 ^ k is closed under all vectors below it.
+pub closed-units : (n : ℕ) (f : ℕ → Bool) (k : ℕ) → ((u : ℕ) → Mem u (units k) → In n (closed n f) u) → (x : ℕ) → x < 2 ^ k → closed n f x ≡ true
+closed-units n f k h x l = span-least (In n (closed n f)) (closed-space n f) (units k) h x (units-span k x .1 l) .1
 
 -- ---- and the linear space is its reduced basis
 

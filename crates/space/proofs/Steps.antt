@@ -1,7 +1,8 @@
 -- The definitions as a loop meets them: one element, one place or one point more. `take`, `suc` and `getD` stand as in the kit's lib.Seq.
 -- The steps of a selection and of a basis that grows by insertion are in gf2. Read next: Examples.
-use mathlib.Core.Path.{_≡_, refl, sym, ap, _∙_}
+use mathlib.Core.Path.{_≡_, refl, sym, ap, _∙_, subst}
 use mathlib.Core.Bool.{Bool, true, false, cond, _&&_}
+use mathlib.Core.Logic.{_≢_}
 use mathlib.Core.List.{List, [], _∷_, _++_, map}
 use Prim.Native.Nat.{ℕ, suc, _+_, _*_, _^_, _<_}
 use native.Mathlib.Nat.{add-mul, mul-assoc, one-mul, zero-mul, pow-suc}
@@ -16,6 +17,7 @@ use Rattle.gf2.specs.Finite.{Mem}
 use Rattle.gf2.specs.Basis.{Reduced, reduce, insert, inserts, isLead, leadMask, placesAt}
 use Rattle.gf2.proofs.Logic.{same}
 use Rattle.gf2.proofs.Xor.{bit-and, bit-ext, bit-zero, xor-assoc}
+use Rattle.gf2.proofs.Reduce.{hasLead-reduce}
 use Rattle.gf2.proofs.Insert.{insert-known, inserts-snoc}
 use Rattle.gf2.proofs.Variables.{isLead-at, isLead-off, bit-leadMask}
 use Rattle.space.specs.Restriction.{equation, number, project, clean}
@@ -106,6 +108,11 @@ clean-mask bs r w = same (clean bs w) (eqb (bitAnd (leadMask bs) w) 0)
     back : (c : ℕ) → Mem c bs → bitAnd (leadMask bs) w ≡ 0 → (t : Bool) → isLead bs (lead c) ≡ t → hasLead c w ≡ false
     back c m e true q = sym (bit-and (lead c) (leadMask bs) w ∙ rw (bit-leadMask bs r (lead c), q)) ∙ ap (bit (lead c)) e ∙ bit-zero (lead c)
     back c m e false q = absurd (isLead-off bs (lead c) q c m refl)
+
+-- A vector with a bit of the mask is reduced by the basis.
+pub mask-reducible : (bs : List ℕ) → Reduced bs → (v : ℕ) → bitAnd (leadMask bs) v ≢ 0 → reduce bs v ≢ v
+mask-reducible bs r v n e =
+    n (eqb-true (bitAnd (leadMask bs) v) 0 (sym (clean-mask bs r v) ∙ clean-of bs v (λ c m. subst (λ (x : ℕ). hasLead c x ≡ false) e (hasLead-reduce bs r v c m))))
 
 -- ---- the smallest affine space point by point
 

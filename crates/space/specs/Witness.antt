@@ -3,9 +3,10 @@
 use mathlib.Core.Path.{_≡_}
 use mathlib.Core.Bool.{Bool, false}
 use mathlib.Core.List.{List}
-use Prim.Native.Nat.{ℕ, _≤_, _<_}
+use Prim.Native.Nat.{ℕ, _^_, _<_}
 use lib.ListN.{getD}
 use Rattle.gf2.specs.Bits.{_⊕_}
+use Rattle.gf2.specs.Finite.{Mem, Rising}
 use Rattle.space.specs.declared.Witness.{Witness}
 use Rattle.space.specs.declared.Witness.the-variants.{At, None}
 
@@ -17,16 +18,20 @@ flagged flags w = getD flags w false
 abbrev pub Agrees : (ℕ → Bool) → ℕ → ℕ → Type 0
 Agrees f a w = f (w ⊕ a) ≡ f w
 
--- Over the vectors from `from` to below `to` and the points below m, the vector a and the point p are the first that break closure.
-pub record FirstWitness (f : ℕ → Bool) (m from to a p : ℕ) : Type 0 where
-  pub low : from ≤ a
-  pub high : a < to
+-- Over the vectors vs and the points below m, the vector a and the point p are the first that break closure, in rising order of vector and then point.
+pub record FirstWitness (f : ℕ → Bool) (m : ℕ) (vs : List ℕ) (a p : ℕ) : Type 0 where
+  pub vector : Mem a vs
   pub point : p < m
   pub breaks : Agrees f a p → ⊥
-  pub vectors : (u : ℕ) → from ≤ u → u < a → (q : ℕ) → q < m → Agrees f u q
+  pub vectors : (u : ℕ) → Mem u vs → u < a → (q : ℕ) → q < m → Agrees f u q
   pub points : (q : ℕ) → q < p → Agrees f a q
 
 -- What the search answers: the first vector and point that break closure, or that there are none.
-abbrev pub Answers : (ℕ → Bool) → ℕ → ℕ → ℕ → Witness → Type 0
-Answers f m from to (At a p) = FirstWitness f m from to a p
-Answers f m from to None = (u : ℕ) → from ≤ u → u < to → (q : ℕ) → q < m → Agrees f u q
+abbrev pub Answers : (ℕ → Bool) → ℕ → List ℕ → Witness → Type 0
+Answers f m vs (At a p) = FirstWitness f m vs a p
+Answers f m vs None = (u : ℕ) → Mem u vs → (q : ℕ) → q < m → Agrees f u q
+
+-- Vectors that can be searched: they rise and have n variables.
+pub record Searchable (n : ℕ) (vs : List ℕ) : Type 0 where
+  pub rises : Rising vs
+  pub below : (v : ℕ) → Mem v vs → v < 2 ^ n

@@ -12,7 +12,7 @@ ghost use Rattle.gf2.specs.Basis.{inserts};
 ghost use Rattle.basis.specs.Reduced.{basisOf, Built};
 ghost use Rattle.table.specs.Table.{Accepted};
 ghost use Rattle.space.specs.Closure.{closed, linearSpace};
-ghost use Rattle.space.specs.Witness.{flagged, Answers};
+ghost use Rattle.space.specs.Witness.{flagged, Searchable, Answers};
 ghost use Rattle.space.specs.Completion.{IsCompleted};
 
 // What a search for a break of closure finds: a vector and a point, or none.
@@ -21,17 +21,17 @@ pub enum Witness {
     None,
 }
 
-// The first break of closure, in rising order of vector and then point, over the vectors from `from` to below `to` and all points.
-pub fn first_witness(flags: &[bool; MAX_POINTS], n: usize, from: u16, to: u16) -> Witness
+// The first break of closure, in rising order of vector and then point, over the given vectors and all points.
+pub fn first_witness(flags: &[bool; MAX_POINTS], n: usize, vectors: &[u16]) -> Witness
     requires { ⌜ n ≤ maxVariables ⌝ }
-    requires { ⌜ from ≤ to ⌝ }
-    requires { ⌜ to ≤ 2 ^ n ⌝ }
-    ensures { λ r. ⌜ Answers (flagged (now (flags .entry))) (2 ^ n) from to r ⌝ }
+    requires { ⌜ Searchable n (now vectors) ⌝ }
+    ensures { λ r. ⌜ Answers (flagged (now (flags .entry))) (2 ^ n) (now (vectors .entry)) r ⌝ }
 {
     let count = table::flag_place(table::point_count(n));
     let mut found = Witness::None;
-    let mut a = from;
-    'search: while a < to {
+    let mut i = 0;
+    'search: while i < vectors.len() {
+        let a = vectors[i];
         let vector = table::flag_place(a);
         let mut p = 0;
         while p < count {
@@ -41,49 +41,46 @@ pub fn first_witness(flags: &[bool; MAX_POINTS], n: usize, from: u16, to: u16) -
             }
             p += 1;
         }
-        a += 1;
+        i += 1;
     }
     found
 }
 
-// Whether the function is closed under the vector: the search over that vector alone finds no break.
-pub fn is_closed(flags: &[bool; MAX_POINTS], n: usize, v: u16) -> bool
-    requires { ⌜ n ≤ maxVariables ⌝ }
-    requires { ⌜ v < 2 ^ n ⌝ }
-    ensures { λ r. ⌜ r ≡ closed n (flagged (now (flags .entry))) v ⌝ }
-{
-    let Witness::None = first_witness(flags, n, v, v + 1) else {
-        return false;
-    };
-    true
-}
-
-// The basis of the closed vectors below v, grown by v if the function is closed under it. A vector already in the space needs no search.
+// The basis of the closed vectors below v, grown by v if the search over that vector alone finds no break.
 fn grown(basis: Basis, flags: &[bool; MAX_POINTS], n: usize, v: u16) -> Basis
     requires { ⌜ n ≤ maxVariables ⌝ }
     requires { ⌜ v < 2 ^ n ⌝ }
     requires { ⌜ basis ≡ basisOf (inserts [] (select (closed n (flagged (now flags))) v)) ⌝ }
     ensures { λ r. ⌜ r ≡ basisOf (inserts [] (select (closed n (flagged (now (flags .entry)))) (v + 1))) ⌝ }
 {
-    if basis.contains(v) {
+    let alone = [v];
+    let Witness::None = first_witness(flags, n, &alone) else {
         return basis;
-    }
-    if is_closed(flags, n, v) {
-        return basis.insert(v);
-    }
-    basis
+    };
+    basis.insert(v)
 }
 
-// The linear space of the function, by its reduced basis. The vector 0 is in every space, so the search starts at 1.
+// The linear space of the function, by its reduced basis. The vectors of the full basis are searched first: closed under them, the function is closed
+// under all. Otherwise it is closed under all vectors below a, the first that breaks closure, and the vectors above a are tried one by one. One with a
+// lead bit of the basis set needs no trial: it is closed exactly if the smaller vector is to which the basis reduces it, and that one was tried.
 pub fn linear_space(flags: &[bool; MAX_POINTS], n: usize) -> Basis
     requires { ⌜ n ≤ maxVariables ⌝ }
     ensures { λ r. ⌜ Built r (linearSpace n (flagged (now (flags .entry)))) (In n (closed n (flagged (now (flags .entry))))) ⌝ }
 {
+    let full = Basis::full(n);
+    let units = full.vectors;
+    let Witness::At(a, _) = first_witness(flags, n, &units[..n]) else {
+        return full;
+    };
     let count = table::point_count(n);
-    let mut basis = Basis::EMPTY;
-    let mut v: u16 = 1;
+    let mut basis = Basis::full(gf2::lead(a) as usize);
+    let mut leads = basis.leads();
+    let mut v = a + 1;
     while v < count {
-        basis = grown(basis, flags, n, v);
+        if leads & v == 0 {
+            basis = grown(basis, flags, n, v);
+            leads = basis.leads();
+        }
         v += 1;
     }
     basis

@@ -34,11 +34,8 @@ cast-bit c = search needs
 bit-requires : tie.Need-bit-requires Inv-loop μ-loop
 bit-requires c κs = search needs
 
-sub-push : tie.Need-sub-push Inv-loop μ-loop
-sub-push c = search needs
-
-cast-push : tie.Need-cast-push Inv-loop μ-loop
-cast-push c = search needs
+index-of-requires : tie.Need-index-of-requires Inv-loop μ-loop
+index-of-requires c κs = search needs
 
 push-requires : tie.Need-push-requires Inv-loop μ-loop
 push-requires c κs = search needs
@@ -64,14 +61,15 @@ module _ (n mask k : ℕ) (h : 0 < k) (done : List ℕ) where
 
 loop-again : tie.Need-loop-again Inv-loop μ-loop
 loop-again c =
-    let l = c .before .before .before .before .loop in
-    let a = c .before .before .before .before .before .args in
-    let p = c .push in
-    let f = listed (l .found) ++ ((a .n - (l .k - 1)) ∷ []) in (
+    let l = c .before .before .before .before .before .loop in
+    let a = c .before .before .before .before .before .before .args in
+    let found = listed (l .found) ++ ((a .n - (l .k - 1)) ∷ []) in
+    let p : c .push .result ≡ short found = c .push .ensures ∙ ap (λ (v : ℕ). short (listed (l .found) ++ (v ∷ []))) (c .before .index-of .ensures) in (
       omega arith,
-      omega (arith, short-len (p .result) f (p .ensures), length-append (listed (l .found)) ((a .n - (l .k - 1)) ∷ []), short-len (l .found) (listed (l .found)) (l .inv .2)),
-      short-again (p .result) f (p .ensures),
-      rw (short-listed (p .result) f (p .ensures)) (taken (a .n) (a .mask) (l .k) (omega arith) (listed (l .found)) (sym (c .before .before .bit .ensures) ∙ c .before .if1 .taken) ∙ l .inv .3),
+      omega (arith, short-len (c .push .result) found p, length-append (listed (l .found)) ((a .n - (l .k - 1)) ∷ []), short-len (l .found) (listed (l .found)) (l .inv .2)),
+      short-again (c .push .result) found p,
+      rw (short-listed (c .push .result) found p)
+          (taken (a .n) (a .mask) (l .k) (omega arith) (listed (l .found)) (sym (c .before .before .before .bit .ensures) ∙ c .before .before .if1 .taken) ∙ l .inv .3),
     )
 
 loop-less-2 : tie.Need-loop-less-2 Inv-loop μ-loop
@@ -100,8 +98,7 @@ variables-of-spec =
     sub-k
     cast-bit
     bit-requires
-    sub-push
-    cast-push
+    index-of-requires
     push-requires
     loop-less
     loop-again

@@ -1,86 +1,96 @@
--- `space::grown` meets its contract: a vector already in the space changes nothing, whether the function is closed under it or not.
--- Assumes nothing.
-use mathlib.Core.Path.{_≡_, sym, ap, _∙_, subst}
+-- `space::grown` meets its contract: the search over one vector finds no witness exactly if the function is closed under it. Assumes nothing.
+use mathlib.Core.Path.{_≡_, refl, sym, ap, _∙_, subst}
 use mathlib.Core.Bool.{Bool, true, false}
-use mathlib.Core.List.{List, []}
-use Prim.Native.Nat.{ℕ, suc, _+_, _^_, _<_}
+use mathlib.Core.Logic.{inl, inr}
+use mathlib.Core.List.{List, [], _∷_}
+use Prim.Native.Nat.{ℕ, _+_, _^_, _<_}
 use native.Mathlib.Numerals.{add-one}
 use native.Mathlib.Omega.{arith}
 use lib.Pow.{pow-mono}
-use borrow.Author.Tests.{eqb-true}
 use borrow.Author.Needs.{needs}
 use Rattle.gf2.specs.Limits.{maxVariables}
 use Rattle.gf2.specs.Finite.{select}
-use Rattle.gf2.specs.Basis.{reduce, insert, inserts}
-use Rattle.gf2.proofs.Finite.{select-mem}
-use Rattle.gf2.proofs.Reduce.{reduce-zero}
-use Rattle.gf2.proofs.Insert.{inserts-reduced, inserts-below, inserts-on, inserts-off, inserts-skip}
+use Rattle.gf2.specs.Basis.{insert, inserts}
+use Rattle.gf2.proofs.Insert.{inserts-on, inserts-off}
 use Rattle.basis.specs.declared.Basis.{Basis}
-use Rattle.basis.specs.Reduced.{vectorsOf, basisOf, IsBasis}
-use Rattle.basis.proofs.Values.{vectors-back, is-basis}
+use Rattle.basis.specs.Reduced.{vectorsOf, basisOf}
+use Rattle.basis.proofs.Values.{vectors-back, select-basis}
+use Rattle.space.specs.declared.Witness.{Witness}
+use Rattle.space.specs.declared.Witness.the-variants.{At, None}
 use Rattle.space.specs.Closure.{closed}
-use Rattle.space.specs.Witness.{flagged}
+use Rattle.space.specs.Witness.{flagged, FirstWitness, Answers}
+use Rattle.space.proofs.Closure.{closed-of, closed-broken}
 use Rattle.space.proofs.grown.Statement.{statement}
 use Rattle.space.proofs.grown.Tie as tie
 
+-- What the search over the one vector v says of it.
+module _ (n : ℕ) (f : ℕ → Bool) (v : ℕ) (w : Witness) (h : Answers f (2 ^ n) (v ∷ []) w) where
+  none-closed : w ≡ None → closed n f v ≡ true
+  none-closed e =
+      let g : Answers f (2 ^ n) (v ∷ []) None = rw e at h in
+      closed-of n f v (g v (inl refl))
+
+  witness-broken : (a p : ℕ) → w ≡ At a p → closed n f v ≡ false
+  witness-broken a p e =
+      let g : FirstWitness f (2 ^ n) (v ∷ []) a p = rw e at h in
+      subst (λ (u : ℕ). closed n f u ≡ false) (elim (g .vector) [ inl q ↦ q | inr m ↦ absurd m ]) (closed-broken n f a p (g .point) (g .breaks))
+
 -- The vectors below v that pass a test, put in one at a time, and the next one.
 module _ (f : ℕ → Bool) (v : ℕ) (b : Basis) (e : b ≡ basisOf (inserts [] (select f v))) where
-  known : v < 2 ^ maxVariables → IsBasis b
-  known h = subst IsBasis (sym e)
-      (is-basis (inserts [] (select f v)) (inserts-reduced [] (select f v) tt)
-      (inserts-below maxVariables (select f v) (λ w m. let k = select-mem f v w m in omega arith)))
-
-  listed : vectorsOf b ≡ inserts [] (select f v)
-  listed = ap vectorsOf e ∙ vectors-back (inserts [] (select f v))
-
-  -- The basis of the vectors up to v, whichever way it is found.
-  next : (r : Basis) → r ≡ basisOf (inserts [] (select f (suc v))) → r ≡ basisOf (inserts [] (select f (v + 1)))
-  next r q = rw add-one q
-
-  skipped : reduce (vectorsOf b) v ≡ 0 → b ≡ basisOf (inserts [] (select f (v + 1)))
-  skipped z = next b (e ∙ ap basisOf (sym (inserts-skip f v (reduce-zero (inserts [] (select f v)) v (rw listed at z)))))
-
   joined : (r : Basis) → r ≡ basisOf (insert (vectorsOf b) v) → f v ≡ true → r ≡ basisOf (inserts [] (select f (v + 1)))
-  joined r q k = next r (q ∙ ap basisOf (ap (λ (bs : List ℕ). insert bs v) listed ∙ sym (inserts-on f v k)))
+  joined r q k = rw add-one (q ∙ ap basisOf (ap (λ (bs : List ℕ). insert bs v) (ap vectorsOf e ∙ vectors-back (inserts [] (select f v))) ∙ sym (inserts-on f v k)))
 
   kept : f v ≡ false → b ≡ basisOf (inserts [] (select f (v + 1)))
-  kept k = next b (e ∙ ap basisOf (sym (inserts-off f v k)))
+  kept k = rw add-one (e ∙ ap basisOf (sym (inserts-off f v k)))
 
 -- Whether the function is closed under a vector.
 abbrev test : tie.Start → ℕ → Bool
 test c = closed (c .args .n) (flagged (c .args .flags .now))
 
-below : (c : tie.Start) → c .args .v < 2 ^ maxVariables
-below c = omega (arith, pow-mono (c .pre .0))
+slice-aggregate-first-witness : tie.Need-slice-aggregate-first-witness
+slice-aggregate-first-witness c = search needs
 
-contains-requires : tie.Need-contains-requires
-contains-requires c κs = known (test c) (c .args .v) (c .args .basis) (c .pre .1 .1) (below c)
+first-witness-requires : tie.Need-first-witness-requires
+first-witness-requires c κs =
+    let s = c .before in
+    (s .pre .0, record { rises = (λ b m. absurd m, tt); below = λ u m. elim m [ inl e ↦ rw e (s .pre .1 .0) | inr k ↦ absurd k ] })
+
+enum-told : tie.Need-enum-told
+enum-told c = search needs
+
+enum-told-2 : tie.Need-enum-told-2
+enum-told-2 c = search needs
 
 returns : tie.Need-returns
 returns c =
-    let s = c .before .before in
-    skipped (test s) (s .args .v) (s .args .basis) (s .pre .1 .1) (eqb-true _ 0 (sym (c .before .contains .ensures) ∙ c .if1 .taken))
-
-is-closed-requires : tie.Need-is-closed-requires
-is-closed-requires c κs = search needs
+    let w = c .before .before in
+    let s = w .before .before in
+    let a = s .args in
+    kept (test s) (a .v) (a .basis) (s .pre .1 .1)
+    (witness-broken (a .n) (flagged (a .flags .now)) (a .v) (w .first-witness .result) (w .first-witness .ensures) _ _ (c .enum-told2 .given .1))
 
 insert-requires : tie.Need-insert-requires
 insert-requires c κs =
     let s = c .before .before .before .before in
-    (known (test s) (s .args .v) (s .args .basis) (s .pre .1 .1) (below s), below s)
+    let l : s .args .v < 2 ^ maxVariables = omega (arith, pow-mono (s .pre .0)) in
+    (select-basis (test s) (s .args .v) (omega arith) (s .args .basis) (s .pre .1 .1), l)
 
 returns-2 : tie.Need-returns-2
 returns-2 c =
-    let s = c .before .before .before .before .before in
-    joined (test s) (s .args .v) (s .args .basis) (s .pre .1 .1) (c .insert .result) (c .insert .ensures .value)
-    (sym (c .before .before .is-closed .ensures) ∙ c .before .if2 .taken)
-
-returns-3 : tie.Need-returns-3
-returns-3 c =
-    let s = c .before .before .before .before in
-    kept (test s) (s .args .v) (s .args .basis) (s .pre .1 .1) (sym (c .before .is-closed .ensures) ∙ c .if2 .left)
+    let w = c .before .before .before in
+    let s = w .before .before in
+    let a = s .args in
+    joined (test s) (a .v) (a .basis) (s .pre .1 .1) (c .insert .result) (c .insert .ensures .value)
+    (none-closed (a .n) (flagged (a .flags .now)) (a .v) (w .first-witness .result) (w .first-witness .ensures) (c .before .enum-told .given .1))
 
 pub grown-spec : {M : Type 1} → statement M
 grown-spec =
     tie.close
-    (tie.spec contains-requires returns is-closed-requires insert-requires returns-2 returns-3)
+    (tie.spec
+    slice-aggregate-first-witness
+    first-witness-requires
+    enum-told
+    enum-told-2
+    returns
+    insert-requires
+    returns-2)

@@ -17,6 +17,12 @@ use std::hint::black_box;
 
 const VARIABLES: usize = 12;
 
+/// The highest bit of a point, x1.
+const X1: u16 = 1 << (VARIABLES - 1);
+
+/// The highest point.
+const LAST: u16 = 2 * X1 - 1;
+
 /// Random tables of a case: so many that the processor can't learn their
 /// branches by heart from one turn to the next.
 const RANDOM_TABLES: usize = 16;
@@ -41,6 +47,26 @@ fn linear_space(title: &str, tables: &[Table]) {
         |(n, on, _)| library::linear_space(black_box(*n), black_box(on)),
         |(n, on, _)| plain::linear_space(black_box(*n), black_box(on)),
     );
+}
+
+/// Times the linear space call on functions of twelve variables.
+fn linear_spaces() {
+    linear_space("n 12, random", &random_tables(50, 0));
+    let cases: [(&str, fn(u16) -> bool); 7] = [
+        ("on 4095 alone", |point| point == LAST),
+        ("x1", |point| point >= X1),
+        ("x1 but for 4095", |point| point >= X1 && point != LAST),
+        ("x1 to x6 all set", |point| point >> 6 == 63),
+        ("parity", |point| point.count_ones() % 2 == 1),
+        ("none on", |_| false),
+        ("all on", |_| true),
+    ];
+    for (title, is_on) in cases {
+        linear_space(
+            &format!("n 12, {title}"),
+            &[generate::table_of(VARIABLES, is_on)],
+        );
+    }
 }
 
 /// A call that takes a table and writes points.
@@ -138,10 +164,7 @@ fn listings() {
 fn main() {
     let with_free = random_tables(40, 20);
     measure::print_head();
-    linear_space("n 12, random", &random_tables(50, 0));
-    linear_space("n 12, on 4095 alone", &[(VARIABLES, vec![4095], vec![])]);
-    linear_space("n 12, parity", &[generate::weight_bit(VARIABLES, 0)]);
-    linear_space("n 12, all on", &[generate::threshold(VARIABLES, 0)]);
+    linear_spaces();
     point_call::<Analysis>(
         "analyse, n 12, random with free points",
         &with_free,

@@ -2,8 +2,18 @@
 
 use library::Basis;
 
+/// The full basis of n variables.
+pub fn full(n: usize) -> Basis {
+    let mut basis = Basis::default();
+    for place in 0..n {
+        basis.vectors[place] = 1 << place;
+    }
+    basis.len = n;
+    basis
+}
+
 /// The vector with each lead bit of the basis cleared; 0 if it is in the span.
-pub fn reduce(basis: &Basis, vector: u16) -> u16 {
+fn reduce(basis: &Basis, vector: u16) -> u16 {
     let mut rest = vector;
     for &entry in &basis.vectors[..basis.len] {
         rest = rest.min(rest ^ entry);

@@ -1,9 +1,10 @@
 //! The calls in plain Rust with the library's algorithms, one file to a call:
-//! flags one to a point; vectors rising, without those already in the span; a
-//! search that stops at the first witness against closure; insertion into a
-//! reduced basis; for primes, the table of all reduced bases, and for a form the
-//! first prime that holds a point. Follows document 01, sections "Points and
-//! spaces", "Primes", "The written form" and "The printed report".
+//! flags one to a point; a search over vectors and points that stops at the first
+//! witness against closure, made of the full basis first and then of single
+//! vectors, rising, without those that have a lead bit of the basis; insertion
+//! into a reduced basis; for primes, the table of all reduced bases, and for a
+//! form the first prime that holds a point. Follows document 01, sections "Points
+//! and spaces", "Primes", "The written form" and "The printed report".
 
 mod analyse;
 mod bases;
