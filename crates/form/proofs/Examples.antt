@@ -7,7 +7,7 @@ use lib.ListN.{replicate}
 use Rattle.gf2.specs.Bits.{bit}
 use Rattle.gf2.specs.Finite.{select}
 use Rattle.gf2.specs.Parity.{oddIn, odd}
-use Rattle.records.specs.Kinds.{kindOf}
+use Rattle.records.specs.Kinds.{headOf}
 use Rattle.table.specs.Table.{badCount}
 use Rattle.product.specs.Lowest.{evenHalvings, lowest}
 use Rattle.product.specs.Product.{factorAt, productAt, someProductAt, fits, apartMasks, apart, agrees}
@@ -76,7 +76,7 @@ pub record Examples : Type 0 where
   pub too-many : walkedForm (empties 65) ≡ TooMany 66
 
 pub examples : Examples
-unfolding walkedForm walkFormFrom kindOf badCount fits agrees apart apartMasks lowest evenHalvings bit partsFrom formPoints select someProductAt productAt factorAt odd oddIn encodeForm encodeProducts encodeFactors
+unfolding walkedForm walkFormFrom headOf badCount fits agrees apart apartMasks lowest evenHalvings bit partsFrom formPoints select someProductAt productAt factorAt odd oddIn encodeForm encodeProducts encodeFactors
 examples =
     record {
       p1 = refl;

@@ -7,19 +7,24 @@ use Prim.Native.Nat.{ℕ, _+_}
 use lib.Dec.{eqb, leb}
 use lib.ListN.{length, getD, drop}
 use Rattle.table.specs.Refusal.{Test, test, firstFault, layoutFault}
-use Rattle.records.specs.declared.Body.{Body}
-use Rattle.records.specs.declared.Body.the-variants.{Length, Unknown as NoLength}
+use Rattle.records.specs.declared.Kind.{Kind}
+use Rattle.records.specs.declared.Head.{Head}
+use Rattle.records.specs.declared.Head.the-variants.{Known, Refused}
 use Rattle.records.specs.declared.Walk.{Walk}
 use Rattle.records.specs.declared.Walk.the-variants.{Laid, WrongKind, Missing, WrongVariables, WrongFactor, NotCanonical, WrongCount, After, TooMany}
 use Rattle.records.specs.declared.Step.{Step}
 use Rattle.records.specs.declared.Step.the-variants.{Whole, Stop}
 use Rattle.records.specs.Kinds.{wordOf}
 
--- The body of the record whose kind stands at the place, before the bytes that follow that kind: it is judged only when all of it is there,
--- and a cut one is missing bytes at the length of the input (document 02, No. 3).
-abbrev pub bodyStep : Body → ℕ → List ℕ → Step
-bodyStep (Length l) place rest = cond (leb l (length rest)) (Whole l) (Stop (Missing (place + 1 + length rest)))
-bodyStep NoLength place rest = Stop (WrongKind place)
+-- A record by the decision over its kind byte: an unknown kind is refused, and a known one judged with the length of its body.
+abbrev pub headStep : Head → (Kind → ℕ → Step) → Step
+headStep (Known kind l) judge = judge kind l
+headStep (Refused fault) judge = Stop fault
+
+-- The body of the record whose kind stands at the place, of the given length, before the bytes that follow that kind: it is judged only when
+-- all of it is there, and a cut one is missing bytes at the length of the input (document 02, No. 3).
+abbrev pub bodyStep : ℕ → ℕ → List ℕ → Step
+bodyStep l place rest = cond (leb l (length rest)) (Whole l) (Stop (Missing (place + 1 + length rest)))
 
 -- After the end record nothing may stand.
 abbrev pub afterEnd : ℕ → ℕ → List ℕ → Walk

@@ -5,7 +5,6 @@ use mathlib.Core.List.{[]}
 use native.Mathlib.Omega.{arith}
 use borrow.Author.Needs.{needs}
 use lib.ListN.{length, drop, getD, drop-of-length-le}
-use Rattle.records.specs.Kinds.{kindOf}
 use Rattle.records.specs.declared.Step.the-variants.{Whole}
 use Rattle.form.specs.Walk.{behind, formStep, walkFormFrom}
 use Rattle.form.specs.Counting.{Counted, behindBy, factorsBefore}
@@ -53,7 +52,7 @@ module _ (c : tie.After-counts-after Inv-loop μ-loop) where
       formStep
       (c .before .before .before .before .before .before .before .before .args .n)
       (behindBy (c .before .before .before .before .before .before .before .before .args .bytes .now) (c .before .before .before .before .before .before .loop .counts) (c .before .before .before .before .before .before .loop .place))
-      (kindOf (getD (c .before .before .before .before .before .before .before .before .args .bytes .now) (c .before .before .before .before .before .before .loop .place) 0))
+      (getD (c .before .before .before .before .before .before .before .before .args .bytes .now) (c .before .before .before .before .before .before .loop .place) 0)
       (c .before .before .before .before .before .before .loop .place)
       (drop (c .before .before .before .before .before .before .loop .place + 1) (c .before .before .before .before .before .before .before .before .args .bytes .now))
       ≡ Whole (c .before .before .length .given .0 .0)
@@ -63,14 +62,14 @@ module _ (c : tie.After-counts-after Inv-loop μ-loop) where
       Carried
       (c .before .before .before .before .before .before .before .before .args .n)
       (c .before .before .before .before .before .before .before .before .args .bytes .now)
-      (kindOf (getD (c .before .before .before .before .before .before .before .before .args .bytes .now) (c .before .before .before .before .before .before .loop .place) 0))
+      (getD (c .before .before .before .before .before .before .before .before .args .bytes .now) (c .before .before .before .before .before .before .loop .place) 0)
       (c .before .before .before .before .before .before .loop .counts)
       (c .before .before .before .before .before .before .loop .place)
       (c .before .before .length .given .0 .0)
   carry =
       let h = c .before .before .before .before .before .before in
       let a = h .before .before .args in
-      carried (a .n) (a .bytes .now) (h .loop .counts) (h .loop .place) (h .loop .inv .0) (omega arith) (kindOf (getD (a .bytes .now) (h .loop .place) 0)) (c .before .before .length .given .0 .0) step
+      carried (a .n) (a .bytes .now) (h .loop .counts) (h .loop .place) (h .loop .inv .0) (omega arith) (getD (a .bytes .now) (h .loop .place) 0) (c .before .before .length .given .0 .0) step
 
 add-place : tie.Need-add-place Inv-loop μ-loop
 add-place c = search needs
