@@ -98,7 +98,7 @@ encoded-bytes (m ∷ ms) rest w b x (inr (inl e)) = omega arith
 encoded-bytes (m ∷ ms) rest w b x (inr (inr (inl e))) = omega (arith, w m (inl refl))
 encoded-bytes (m ∷ ms) rest w b x (inr (inr (inr k))) = encoded-bytes ms rest (λ y i. w y (inr i)) b x k
 
-table-bytes : (n : ℕ) (ms : List Mark) → n < 256 → ((m : Mark) → Mem m ms → m .point < 65536) → length ms ≤ maxPoints → Bytes (encodeTable n ms)
+pub table-bytes : (n : ℕ) (ms : List Mark) → n < 256 → ((m : Mark) → Mem m ms → m .point < 65536) → length ms ≤ maxPoints → Bytes (encodeTable n ms)
 unfolding encodeTable
 table-bytes n ms h w few x (inl e) = omega arith
 table-bytes n ms h w few x (inr (inl e)) = omega arith
@@ -109,6 +109,10 @@ table-bytes n ms h w few x (inr (inr k)) = encoded-bytes ms (encodeEnd (length m
     last y (inr (inl e)) = omega arith
     last y (inr (inr (inl e))) = omega arith
     last y (inr (inr (inr e))) = absurd e
+
+-- Bytes that are laid out as a table are the encoding of what is read of them.
+pub stored-same : (bytes : List ℕ) → Bytes bytes → LaidOut bytes → bytes ≡ encodeTable (storedVariables bytes) (marks bytes)
+stored-same bytes b h = as-encoded b (laid-as bytes h)
 
 -- A list of bytes is laid out as a table exactly if it is the encoding of one.
 pub laid-exactly : (bytes : List ℕ) → (Bytes bytes × LaidOut bytes) ↔ Encoded bytes
@@ -121,7 +125,7 @@ laid-exactly bytes = (
         one-byte = as-words (h .0) a .0;
         two-bytes = as-words (h .0) a .1;
         few = laid-few a;
-        same = as-encoded (h .0) a;
+        same = stored-same bytes (h .0) (h .1);
       },
   λ e. subst (λ (l : List ℕ). Bytes l × LaidOut l) (sym (e .same)) (table-bytes (e .variables) (e .listed) (e .one-byte) (e .two-bytes) (e .few), ap isFault (encoded-laid (e .variables) (e .listed) (e .few))),
 )
