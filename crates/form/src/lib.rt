@@ -1,5 +1,5 @@
 // The written form (document 01, "The written form"): its bytes are walked from the left, valued at a point, read into points and written again.
-// Read next: specs/Walk.antt.
+// Read next: specs/Form.antt.
 ghost use mathlib.Core.Path.{_≡_};
 ghost use mathlib.Core.Bool.{_&&_};
 ghost use mathlib.Core.List.{[]};

@@ -74,9 +74,9 @@ Bytes bytes = (byte : ℕ) → Mem byte bytes → byte < 256
 abbrev pub encodeRecord : ℕ → ℕ → List ℕ
 encodeRecord kind word = kind ∷ lowByte word ∷ highByte word ∷ []
 
--- Its length: one byte of kind, two of the number.
+-- Its length: one byte of kind, and the body of a point or of the end.
 abbrev pub wordRecordLength : ℕ
-wordRecordLength = 3
+wordRecordLength = 1 + bodyLength End
 
 -- The end record with the number of points of a table, or of products of a form.
 abbrev pub encodeEnd : ℕ → List ℕ
