@@ -8,6 +8,7 @@ use lib.ListN.{length, length-append}
 use borrow.Author.Tests.{le-leb, lt-ltb, ne-eqb}
 use Rattle.records.specs.declared.Kind.the-variants.{Variables, Product, Factor as FactorKind, End}
 use Rattle.records.specs.Kinds.{wordOf}
+use Rattle.records.specs.Walks.{walkBy}
 use Rattle.records.proofs.KindBytes.{head-byte}
 use Rattle.product.specs.Product.{Factor, factor}
 use Rattle.records.specs.declared.Walk.the-variants.{Missing}
@@ -33,7 +34,7 @@ place-on place k = let e : place + 1 + k ≡ place + suc k = omega arith in ap M
 
 cut-laying : {n : ℕ} {l : List ℕ} {products : ℕ} {earlier : List Factor} {all : ℕ} → Laying n l products earlier all → (place : ℕ) (front : List ℕ) (byte : ℕ) (more : List ℕ)
     → l ≡ front ++ (byte ∷ more) → walkFormFrom n 0 (behind products earlier) place front ≡ Missing (place + length front)
-unfolding walkFormFrom
+unfolding walkBy
 cut-laying (ends q w a) place [] b more e = let z : place ≡ place + 0 = omega arith in ap Missing z
 cut-laying (ends q w a) place (x ∷ []) b more e = rw (first e ∙ q, head-byte End place) (place-on place 0)
 cut-laying (ends q w a) place (x ∷ y ∷ []) b more e = rw (first e ∙ q, head-byte End place) (place-on place 1)
@@ -56,7 +57,7 @@ cut-laying {n = n} {products = products} {earlier = earlier} (holds {constant = 
     (cut-laying r (place + 1 + 1 + 1 + 1) front b more rest ∙ ap Missing on)
 
 cut-laid : {l : List ℕ} {all : ℕ} → LaidAs l all → (front : List ℕ) (byte : ℕ) (more : List ℕ) → l ≡ front ++ (byte ∷ more) → walkedForm front ≡ Missing (length front)
-unfolding walkedForm walkFormFrom
+unfolding walkedForm walkBy
 cut-laid (form q v r) [] b more e = refl
 cut-laid (form q v r) (x ∷ []) b more e = rw (first e ∙ q, head-byte Variables 0)
 cut-laid (form {n = n} q v r) (x ∷ m ∷ front) b more e =

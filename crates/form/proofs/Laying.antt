@@ -21,7 +21,7 @@ use Rattle.records.specs.declared.Walk.{Walk}
 use Rattle.records.specs.declared.Walk.the-variants.{Laid, WrongKind, Missing, WrongVariables, WrongFactor, NotCanonical, WrongCount, After, TooMany}
 use Rattle.records.specs.declared.Step.{Step}
 use Rattle.records.specs.declared.Step.the-variants.{Whole, Stop}
-use Rattle.records.specs.Walks.{bodyStep, afterEnd, endStep, goOn, isFault}
+use Rattle.records.specs.Walks.{bodyStep, afterEnd, endStep, goOn, walkBy, isFault}
 use Rattle.records.proofs.Whole.{not-whole, body-length, faulty, head-goes}
 use Rattle.form.specs.Form.{maxProducts}
 use Rattle.form.specs.Decoding.{factorOf}
@@ -105,18 +105,18 @@ nothing-after products place all (b ∷ rest) e = faulty refl e
 -- The records from a place on, by the number of bytes that are left.
 laying-in : (k n : ℕ) (rest : List ℕ) (products : ℕ) (earlier : List Factor) (place all : ℕ) → length rest ≤ k
     → walkFormFrom n 0 (behind products earlier) place rest ≡ Laid all → Laying n rest products earlier all
-unfolding walkFormFrom
+unfolding walkBy
 laying-in zero n [] products earlier place all h e = faulty refl e
 laying-in zero n (byte ∷ rest) products earlier place all h e = absurd (not-suc-le-zero h)
 laying-in (suc k) n [] products earlier place all h e = faulty refl e
 laying-in (suc k) n (byte ∷ rest) products earlier place all h e =
-    let d = head-goes byte place (λ t l. laterFormKind n (behind products earlier) t l place rest) (λ l. walkFormFrom n l (passed byte rest (behind products earlier)) (place + 1) rest) e in
+    let d = head-goes byte place (λ t l. laterFormKind n (behind products earlier) t l place rest) (λ l. walkFormFrom n l (passed (behind products earlier) byte rest) (place + 1) rest) e in
     go (d .0) (d .1) rest (le-of-suc-le-suc h) (λ r p f l i g. laying-in k n r p f l all i g)
-    (subst (λ (b : ℕ). goOn (laterFormKind n (behind products earlier) (d .0) (bodyLength (d .0)) place rest) (λ l. walkFormFrom n l (passed b rest (behind products earlier)) (place + 1) rest) ≡ Laid all) (d .1) (d .2))
+    (subst (λ (b : ℕ). goOn (laterFormKind n (behind products earlier) (d .0) (bodyLength (d .0)) place rest) (λ l. walkFormFrom n l (passed (behind products earlier) b rest) (place + 1) rest) ≡ Laid all) (d .1) (d .2))
   where
     go : (t : Kind) → byte ≡ kindByte t → (rest : List ℕ) → length rest ≤ k
         → ((rest : List ℕ) (products : ℕ) (earlier : List Factor) (place : ℕ) → length rest ≤ k → walkFormFrom n 0 (behind products earlier) place rest ≡ Laid all → Laying n rest products earlier all)
-        → goOn (laterFormKind n (behind products earlier) t (bodyLength t) place rest) (λ l. walkFormFrom n l (passed (kindByte t) rest (behind products earlier)) (place + 1) rest) ≡ Laid all → Laying n (byte ∷ rest) products earlier all
+        → goOn (laterFormKind n (behind products earlier) t (bodyLength t) place rest) (λ l. walkFormFrom n l (passed (behind products earlier) (kindByte t) rest) (place + 1) rest) ≡ Laid all → Laying n (byte ∷ rest) products earlier all
     go Product q rest h later e =
         let g = product-goes products place all (λ l. walkFormFrom n l (behind (products + 1) []) (place + 1) rest) rest e in
         begins q (g .0) (later rest (products + 1) [] (place + 1) h (g .1))
@@ -138,7 +138,7 @@ laying-in (suc k) n (byte ∷ rest) products earlier place all h e =
 
 -- The first record, then the others.
 pub laid : (bytes : List ℕ) (all : ℕ) → walkedForm bytes ≡ Laid all → LaidAs bytes all
-unfolding walkedForm walkFormFrom
+unfolding walkedForm walkBy
 laid [] all e = faulty refl e
 laid (byte ∷ rest) all e = let d = head-goes byte 0 (λ k l. firstFormKind k l rest) (λ l. walkFormFrom (getD rest 0 0) l (behind 0 []) 1 rest) e in go (d .0) (d .1) rest (d .2)
   where
@@ -165,7 +165,7 @@ laid (byte ∷ rest) all e = let d = head-goes byte 0 (λ k l. firstFormKind k l
 -- The walk over the records and any bytes after them.
 pub walk-laying : {n : ℕ} {rest : List ℕ} {products : ℕ} {earlier : List Factor} {all : ℕ} → Laying n rest products earlier all → (place : ℕ) (more : List ℕ)
     → walkFormFrom n 0 (behind products earlier) place (rest ++ more) ≡ afterEnd all (place + length rest) more
-unfolding walkFormFrom
+unfolding walkBy
 walk-laying {products = products} (ends {low = low} {high = high} q w a) place more =
     let e : place + 1 + 2 ≡ place + 3 = omega arith in
     rw (q, head-byte End place, le-leb 2 (length (low ∷ high ∷ more)) (omega arith), eq-eqb _ products w) (ap (λ (p : ℕ). afterEnd products p more) e ∙ ap (λ (p : ℕ). afterEnd p (place + 3) more) a)
@@ -177,7 +177,7 @@ walk-laying {products = products} {all = all} (holds {constant = constant} {low 
     rw (q, head-byte FactorKind place, ne-eqb products 0 nz, le-leb 3 (length (constant ∷ low ∷ high ∷ (rest ++ more))) (omega arith), f, a) (walk-laying r (place + 1 + 1 + 1 + 1) more ∙ ap (λ (p : ℕ). afterEnd all p more) e)
 
 pub walk-longer : {bytes : List ℕ} {all : ℕ} → LaidAs bytes all → (more : List ℕ) → walkedForm (bytes ++ more) ≡ afterEnd all (length bytes) more
-unfolding walkedForm walkFormFrom
+unfolding walkedForm walkBy
 walk-longer {all = all} (form {n = n} {rest = rest} q b r) more =
     let e : 2 + length rest ≡ suc (suc (length rest)) = omega arith in
     rw (q, head-byte Variables 0, le-leb 1 (length (n ∷ (rest ++ more))) (omega arith), b) (walk-laying r 2 more ∙ ap (λ (p : ℕ). afterEnd all p more) e)

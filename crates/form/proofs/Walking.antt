@@ -4,20 +4,21 @@ use mathlib.Core.Path.{_≡_, refl, sym, ap, _∙_, subst}
 use mathlib.Core.Bool.{true, false, cond, _&&_, and-assoc}
 use mathlib.Core.List.{List, [], _∷_, _++_}
 use mathlib.Core.Logic.{inl, inr}
-use Prim.Native.Nat.{ℕ, zero, suc, _≤_, _<_, _+_, _-_}
-use native.Mathlib.Nat.{le-of-suc-le-suc, not-suc-le-zero}
+use Prim.Native.Nat.{ℕ, suc, _≤_, _<_, _+_, _-_}
+use native.Mathlib.Nat.{not-suc-le-zero}
 use native.Mathlib.Numerals.{add-one}
 use native.Mathlib.Omega.{arith}
 use lib.Dec.{ltb, eqb}
 use borrow.Author.Tests.{ltb-true}
 use lib.ListN.{length, drop, getD, length-drop}
-use lib.Seq.{drop-cons, drop-drop, getD-drop}
+use lib.Seq.{drop-drop, getD-drop}
 use Rattle.gf2.proofs.Logic.{and-true}
 use Rattle.gf2.proofs.Finite.{mem-snoc, snoc-mem}
 use Rattle.records.specs.declared.Kind.{Kind}
 use Rattle.records.specs.declared.Kind.the-variants.{Variables, Product, Factor as FactorKind, End, On, Free}
 use Rattle.records.specs.Kinds.{bodyLength}
 use Rattle.records.proofs.KindBytes.{kindByte}
+use Rattle.records.proofs.Walking.{pass}
 use Rattle.table.specs.Table.{badCount}
 use Rattle.product.specs.Product.{Factor, factor, AllFit, fits, apartMasks, apart, agrees}
 use Rattle.product.proofs.Product.{fits-is}
@@ -25,7 +26,7 @@ use Rattle.records.specs.declared.Walk.{Walk}
 use Rattle.records.specs.declared.Walk.the-variants.{WrongKind, Missing, WrongVariables, WrongFactor, NotCanonical, TooMany}
 use Rattle.records.specs.declared.Step.{Step}
 use Rattle.records.specs.declared.Step.the-variants.{Whole, Stop}
-use Rattle.records.specs.Walks.{bodyStep, endStep}
+use Rattle.records.specs.Walks.{bodyStep, endStep, bytesMissing}
 use Rattle.records.proofs.Whole.{body-length, failed-test, head-whole, not-whole, passed-test}
 use Rattle.form.specs.declared.Counts.{Counts}
 use Rattle.form.specs.Form.{maxProducts}
@@ -106,36 +107,9 @@ factor-read bytes place =
     let same : place + 1 + 0 ≡ place + 1 = omega arith in
     ap (λ (constant : ℕ). factor constant (factorOf (drop (place + 1) bytes) .mask)) (sym (getD-drop (place + 1) bytes 0 0 ∙ ap (λ (p : ℕ). getD bytes p 0) same))
 
--- ---- the walk, a record more
+-- ---- the walk over a whole input
 
--- A body that is there is passed.
-pub pass : (n skip : ℕ) (b : Behind) (place : ℕ) (rest : List ℕ) → skip ≤ length rest → walkFormFrom n skip b place rest ≡ walkFormFrom n 0 b (place + skip) (drop skip rest)
-unfolding walkFormFrom
-pass n zero b place rest h = let e : place ≡ place + 0 = omega arith in ap (λ (p : ℕ). walkFormFrom n 0 b p rest) e
-pass n (suc k) b place [] h = absurd (not-suc-le-zero h)
-pass n (suc k) b place (c ∷ rest) h =
-    let e : place + 1 + k ≡ place + suc k = omega arith in
-    pass n k b (place + 1) rest (le-of-suc-le-suc h) ∙ ap (λ (p : ℕ). walkFormFrom n 0 b p (drop k rest)) e
-
--- The walk at a place of the bytes where a record begins: it ends there, or goes on after the record.
-module _ (n : ℕ) (s : List ℕ) (b : Behind) (place : ℕ) (h : place < length s) where
-  opened : drop place s ≡ getD s place 0 ∷ drop (place + 1) s
-  opened = rw (add-one, drop-cons s place 0)
-
-  pub walk-ends : (w : Walk) → formStep n b (getD s place 0) place (drop (place + 1) s) ≡ Stop w → walkFormFrom n 0 b place (drop place s) ≡ w
-  unfolding walkFormFrom
-  walk-ends w e = rw (opened, e)
-
-  pub walk-goes : (l : ℕ) → formStep n b (getD s place 0) place (drop (place + 1) s) ≡ Whole l
-      → walkFormFrom n 0 b place (drop place s) ≡ walkFormFrom n 0 (passed (getD s place 0) (drop (place + 1) s) b) (place + 1 + l) (drop (place + 1 + l) s)
-  unfolding walkFormFrom
-  walk-goes l e =
-      let after = passed (getD s place 0) (drop (place + 1) s) b in
-      let there = record-whole n b (getD s place 0) place (drop (place + 1) s) l e in
-      let on = pass n l after (place + 1) (drop (place + 1) s) there ∙ ap (walkFormFrom n 0 after (place + 1 + l)) (drop-drop l (place + 1) s) in
-      rw (opened, e) on
-
--- The walk over a whole input: it ends at the first record, or goes on after it.
+-- It ends at the first record, or goes on after it.
 pub walk-none : (s : List ℕ) → length s ≡ 0 → walkedForm s ≡ Missing 0
 unfolding walkedForm
 walk-none [] h = refl
@@ -153,7 +127,7 @@ first-goes [] l h e = absurd (not-suc-le-zero h)
 first-goes (c ∷ rest) l h e =
     let w = first-whole c rest l e in
     let there : l ≤ length rest = omega (arith, w .0, w .1) in
-    rw e (pass (getD rest 0 0) l (behind 0 []) 1 rest there ∙ ap (walkFormFrom (getD rest 0 0) 0 (behind 0 []) (1 + l)) (drop-drop l 1 (c ∷ rest)))
+    rw e (pass (formStep (getD rest 0 0)) passed bytesMissing l (behind 0 []) 1 rest there ∙ ap (walkFormFrom (getD rest 0 0) 0 (behind 0 []) (1 + l)) (drop-drop l 1 (c ∷ rest)))
 
 -- ---- the counts, a record more
 
@@ -167,7 +141,7 @@ factors-more k bytes place =
 -- A record that is passed: the counts are again those of a walk, and say what lies behind it then.
 pub record Carried (n : ℕ) (bytes : List ℕ) (kind : ℕ) (counts : Counts) (place l : ℕ) : Type 0 where
   pub counted : Counted n bytes (countsAfter kind counts) (place + 1 + l)
-  pub behindThen : behindBy bytes (countsAfter kind counts) (place + 1 + l) ≡ passed kind (drop (place + 1) bytes) (behindBy bytes counts place)
+  pub behindThen : behindBy bytes (countsAfter kind counts) (place + 1 + l) ≡ passed (behindBy bytes counts place) kind (drop (place + 1) bytes)
 
 pub none-fit : (n : ℕ) (bytes : List ℕ) (place : ℕ) → AllFit n (factorsBefore 0 bytes place)
 unfolding factorsBefore

@@ -2,7 +2,7 @@
 -- (document 01, "The written form"; the faults and their places are those of document 02, No. 3). Read next: Counting.
 use mathlib.Core.Bool.{cond}
 use mathlib.Core.List.{List, [], _∷_, _++_}
-use Prim.Native.Nat.{ℕ, zero, suc, _+_}
+use Prim.Native.Nat.{ℕ, _+_}
 use lib.Dec.{eqb, ltb}
 use lib.ListN.{getD}
 use Rattle.records.specs.declared.Kind.{Kind}
@@ -14,7 +14,7 @@ use Rattle.records.specs.declared.Walk.{Walk}
 use Rattle.records.specs.declared.Walk.the-variants.{WrongKind, Missing, WrongVariables, WrongFactor, NotCanonical, TooMany}
 use Rattle.records.specs.declared.Step.{Step}
 use Rattle.records.specs.declared.Step.the-variants.{Whole, Stop}
-use Rattle.records.specs.Walks.{headStep, bodyStep, endStep, goOn}
+use Rattle.records.specs.Walks.{headStep, bodyStep, endStep, goOn, walkBy, bytesMissing}
 use Rattle.form.specs.Form.{maxProducts}
 use Rattle.form.specs.Decoding.{factorOf}
 
@@ -36,7 +36,7 @@ firstFormKind Free l rest = Stop (WrongKind 0)
 abbrev pub firstFormStep : ℕ → List ℕ → Step
 firstFormStep byte rest = headStep (headOf byte 0) (λ kind l. firstFormKind kind l rest)
 
--- A product begins, after a number of others; one too many is a fault at its kind.
+-- A product begins, with a body of the given length, after a number of others; one too many is a fault at its kind.
 abbrev pub productStep : ℕ → ℕ → ℕ → List ℕ → Step
 productStep products l place rest = cond (ltb products maxProducts) (bodyStep l place rest) (Stop (TooMany place))
 
@@ -74,17 +74,14 @@ abbrev pub formStep : ℕ → Behind → ℕ → ℕ → List ℕ → Step
 formStep n b byte place rest = headStep (headOf byte place) (λ kind l. laterFormKind n b kind l place rest)
 
 -- What lies behind once a record is passed too, by its kind byte: a product begins without factors, a factor is the last of its product.
-abbrev pub passed : ℕ → List ℕ → Behind → Behind
-passed kind rest b =
+abbrev pub passed : Behind → ℕ → List ℕ → Behind
+passed b kind rest =
     cond (eqb kind productKind) (behind (b .products + 1) [])
     (cond (eqb kind factorKind) (behind (b .products) (b .factors ++ (factorOf rest ∷ []))) b)
 
 -- The walk over the bytes from a place on, for n variables, once the given number of bytes of a body is passed.
-unfoldable pub walkFormFrom : ℕ → ℕ → Behind → ℕ → List ℕ → Walk
-walkFormFrom n skip b place [] = Missing place
-walkFormFrom n zero b place (byte ∷ rest) =
-    goOn (formStep n b byte place rest) (λ l. walkFormFrom n l (passed byte rest b) (place + 1) rest)
-walkFormFrom n (suc skip) b place (byte ∷ rest) = walkFormFrom n skip b (place + 1) rest
+abbrev pub walkFormFrom : ℕ → ℕ → Behind → ℕ → List ℕ → Walk
+walkFormFrom n = walkBy (formStep n) passed bytesMissing
 
 -- The walk over a whole input: the first record, products with their factors, the end.
 unfoldable pub walkedForm : List ℕ → Walk

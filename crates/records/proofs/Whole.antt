@@ -1,4 +1,5 @@
--- Laws of specs.Walks: a whole record is not the end of a walk, a fault is not what was asked for, and neither comes of an unknown kind.
+-- Laws of specs.Walks: a whole record is not the end of a walk, a fault is not what was asked for, and an unknown kind is neither passed nor accepted.
+-- Read next: Walking.
 use mathlib.Core.Path.{_≡_, refl, ap}
 use mathlib.Core.Bool.{Bool, true, false, cond}
 use mathlib.Core.List.{List}

@@ -20,7 +20,7 @@ use Rattle.records.proofs.KindBytes.{kindByte, head-byte}
 use Rattle.records.specs.declared.Walk.{Walk}
 use Rattle.records.specs.declared.Walk.the-variants.{Laid, WrongKind, Missing, WrongVariables, WrongFactor, NotCanonical, WrongCount, After, TooMany}
 use Rattle.records.specs.declared.Step.the-variants.{Stop}
-use Rattle.records.specs.Walks.{headStep, bodyStep, afterEnd, goOn, isFault}
+use Rattle.records.specs.Walks.{headStep, bodyStep, afterEnd, goOn, walkBy, isFault}
 use Rattle.records.proofs.Whole.{faulty, head-goes}
 use Rattle.stored.specs.Layout.{firstTableKind, laterTableKind, tableStep, walkTableFrom, walked, firstPoint, tableLength, longestTable}
 use Rattle.stored.specs.Marks.{Mark, mark, noMark, recordMarks, marks, storedPoints}
@@ -51,7 +51,7 @@ cut End count place all rest next h e = faulty refl (rw (lt-leb 2 (length rest) 
 
 -- A record that begins where one can is of a known kind.
 module _ (byte count place all : ℕ) (rest : List ℕ) (next : ℕ → Walk) where
-  inner : goOn (tableStep byte count place rest) next ≡ Laid all
+  inner : goOn (tableStep count byte place rest) next ≡ Laid all
       → (place ≢ longestTable) × ((k : Kind) × (byte ≡ kindByte k) × (goOn (laterTableKind k (bodyLength k) count place rest) next ≡ Laid all))
   inner = go (eqb place longestTable) refl
     where
@@ -75,7 +75,7 @@ module _ (byte low high : ℕ) (rest : List ℕ) (place count all : ℕ) where
   there = le-leb 2 (length (low ∷ high ∷ rest)) (omega arith)
 
   passed : walkTableFrom 2 (count + 1) (place + 1) (low ∷ high ∷ rest) ≡ walkTableFrom 0 (count + 1) (place + 3) rest
-  unfolding walkTableFrom
+  unfolding walkBy
   passed = let third : place + 1 + 1 + 1 ≡ place + 3 = omega arith in ap (λ (p : ℕ). walkTableFrom 0 (count + 1) p rest) third
 
   whole : (k : Kind) → place ≢ longestTable → byte ≡ kindByte k
@@ -91,7 +91,7 @@ module _ (byte low high : ℕ) (rest : List ℕ) (place count all : ℕ) where
       subst (λ (l : List ℕ). Laying (byte ∷ low ∷ high ∷ l) place count all) (sym (h .1)) (end o q (h .0) (h .2))
 
 pub laying : (rest : List ℕ) (place count all : ℕ) → walkTableFrom 0 count place rest ≡ Laid all → Laying rest place count all
-unfolding walkTableFrom
+unfolding walkBy
 laying [] place count all e = faulty refl e
 laying (byte ∷ []) place count all e = let h = inner byte count place all [] _ e .1 in cut (h .0) count place all [] _ (omega arith) (h .2)
 laying (byte ∷ low ∷ []) place count all e = let h = inner byte count place all (low ∷ []) _ e .1 in cut (h .0) count place all (low ∷ []) _ (omega arith) (h .2)
@@ -101,7 +101,7 @@ laying (byte ∷ low ∷ high ∷ rest) place count all e =
 
 -- The first record, then the others.
 begun : (n : ℕ) (rest : List ℕ) → walkTableFrom 0 0 2 rest ≡ walkTableFrom 1 0 1 (n ∷ rest)
-unfolding walkTableFrom
+unfolding walkBy
 begun n rest = refl
 
 pub laid : (bytes : List ℕ) (all : ℕ) → walked bytes ≡ Laid all → LaidAs bytes all
@@ -125,7 +125,7 @@ later-point true count place rest = rw (head-byte On place)
 later-point false count place rest = rw (head-byte Free place)
 
 pub walk-laying : {rest : List ℕ} {place count all : ℕ} → Laying rest place count all → walkTableFrom 0 count place rest ≡ Laid all
-unfolding walkTableFrom
+unfolding walkBy
 walk-laying {place = place} {count = count} (end o q w a) = rw (ne-eqb place longestTable o, q, head-byte End place, eq-eqb _ count w) (ap Laid a)
 walk-laying {place = place} {count = count} {all = all} (point {byte} {low} {high} {rest} isOn o q r) =
     rw (ne-eqb place longestTable o, q, later-point isOn count place (low ∷ high ∷ rest), there byte low high rest place count all)

@@ -2,7 +2,7 @@
 -- (document 01, "The written form"; the faults and their places are those of document 02, No. 3). Read next: Marks.
 use mathlib.Core.Bool.{cond}
 use mathlib.Core.List.{List, [], _∷_}
-use Prim.Native.Nat.{ℕ, zero, suc, _+_, _*_}
+use Prim.Native.Nat.{ℕ, _+_, _*_}
 use lib.Dec.{eqb}
 use Rattle.records.specs.declared.Kind.{Kind}
 use Rattle.records.specs.declared.Kind.the-variants.{Variables, Product, Factor, End, On, Free}
@@ -12,7 +12,7 @@ use Rattle.records.specs.declared.Walk.{Walk}
 use Rattle.records.specs.declared.Walk.the-variants.{WrongKind, Missing, After}
 use Rattle.records.specs.declared.Step.{Step}
 use Rattle.records.specs.declared.Step.the-variants.{Stop}
-use Rattle.records.specs.Walks.{headStep, bodyStep, endStep, goOn}
+use Rattle.records.specs.Walks.{headStep, bodyStep, endStep, goOn, walkBy, bytesMissing}
 
 -- Where the records of points begin: behind 4E and n.
 abbrev pub firstPoint : ℕ
@@ -48,17 +48,19 @@ laterTableKind Variables l count place rest = Stop (WrongKind place)
 laterTableKind Product l count place rest = Stop (WrongKind place)
 laterTableKind Factor l count place rest = Stop (WrongKind place)
 
--- A later record, by the decision over its kind byte. A byte at the place after the longest table is a byte after the end, whatever it is
+-- A later record, with a number of records behind it, by the decision over its kind byte. A byte at the place after the longest table is a byte after the end, whatever it is
 -- (document 02, No. 3).
 abbrev pub tableStep : ℕ → ℕ → ℕ → List ℕ → Step
-tableStep byte count place rest =
+tableStep count byte place rest =
     cond (eqb place longestTable) (Stop (After place)) (headStep (headOf byte place) (λ kind l. laterTableKind kind l count place rest))
 
+-- Once a record is passed, one more lies behind.
+abbrev pub countPassed : ℕ → ℕ → List ℕ → ℕ
+countPassed count byte rest = count + 1
+
 -- The walk over the bytes from a place on, with the number of records behind it, once the given number of bytes of a body is passed.
-unfoldable pub walkTableFrom : ℕ → ℕ → ℕ → List ℕ → Walk
-walkTableFrom skip count place [] = Missing place
-walkTableFrom zero count place (byte ∷ rest) = goOn (tableStep byte count place rest) (λ l. walkTableFrom l (count + 1) (place + 1) rest)
-walkTableFrom (suc skip) count place (byte ∷ rest) = walkTableFrom skip count (place + 1) rest
+abbrev pub walkTableFrom : ℕ → ℕ → ℕ → List ℕ → Walk
+walkTableFrom = walkBy tableStep countPassed bytesMissing
 
 -- The walk over a whole input: the first record, the records of points, the end.
 unfoldable pub walked : List ℕ → Walk

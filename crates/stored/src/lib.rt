@@ -51,7 +51,7 @@ fn first_step(bytes: &[u8]) -> Step
 // A later record, at the place, with a number of records before it.
 fn record_step(bytes: &[u8], count: usize, place: usize) -> Step
     requires { ⌜ place < length (now bytes) ⌝ }
-    ensures { λ r. ⌜ r ≡ tableStep (getD (now (bytes .entry)) place 0) count place (drop (place + 1) (now (bytes .entry))) ⌝ }
+    ensures { λ r. ⌜ r ≡ tableStep count (getD (now (bytes .entry)) place 0) place (drop (place + 1) (now (bytes .entry))) ⌝ }
 {
     if place == LONGEST_TABLE {
         return Step::Stop(Walk::After(place));

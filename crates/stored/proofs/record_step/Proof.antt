@@ -68,7 +68,7 @@ module _ (c : tie.After-known-told2) where
   known = sym (c .before .before .before .head-of .ensures) ∙ c .before .kind .given .1
 
   step : {kind : Kind} → c .before .kind .given .0 .0 ≡ kind
-      → tableStep (getD (start c .args .bytes .now) (start c .args .place) 0) (start c .args .count) (start c .args .place) (drop (start c .args .place + 1) (start c .args .bytes .now))
+      → tableStep (start c .args .count) (getD (start c .args .bytes .now) (start c .args .place) 0) (start c .args .place) (drop (start c .args .place + 1) (start c .args .bytes .now))
       ≡ laterTableKind kind (c .before .kind .given .0 .1 .0) (start c .args .count) (start c .args .place) (drop (start c .args .place + 1) (start c .args .bytes .now))
   step e =
       let a = start c .args in
