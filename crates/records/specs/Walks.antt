@@ -1,5 +1,5 @@
--- What the walks over the bytes of tables and forms share: the body of a record, the end record, the walk itself, and the refusal of what it finds
--- (document 01, "The written form"; the faults and their places are those of document 02, No. 3).
+-- What the walks over the bytes of tables and forms share: the body of a record, the end record, the walk from record to record, and the
+-- refusal of what it finds (document 01, "The written form"; the faults and their places are those of document 02, No. 3).
 -- Read next: crate `stored`, which walks over a stored table, and crate `form`.
 use mathlib.Core.Bool.{Bool, true, false, cond}
 use mathlib.Core.List.{List, [], _∷_}
