@@ -28,9 +28,11 @@ unfolding holds
 form-numbered bytes = numbered (layoutTests (walkedForm bytes)) refl
 
 -- There is no refusal exactly where the bytes are a form.
-pub accepted-form : (bytes : List ℕ) → formFault bytes ≡ 0 → IsForm bytes
+pub accepted-form : (bytes : List ℕ) → (formFault bytes ≡ 0) ↔ IsForm bytes
 unfolding layoutOf
-accepted-form bytes e = no-fault (layoutTests (walkedForm bytes)) (form-numbered bytes) .0 e _ (inl refl)
+accepted-form bytes =
+    let none = no-fault (layoutTests (walkedForm bytes)) (form-numbered bytes) in
+    (λ e. none .0 e _ (inl refl), λ h. none .1 (λ t m. elim m [ inl q ↦ rw q h | inr i ↦ absurd i ]))
 
 -- An accepted form has its first record, which gives an n as in a table.
 pub form-begins : (bytes : List ℕ) → IsForm bytes → (1 < length bytes) × (formVariables bytes ≤ maxVariables)

@@ -6,7 +6,10 @@ use Prim.Native.Nat.{ℕ, suc, _+_}
 use native.Mathlib.Omega.{arith}
 use lib.ListN.{length, length-append}
 use borrow.Author.Tests.{le-leb, lt-ltb, ne-eqb}
-use Rattle.records.specs.Kinds.{kindOf, wordOf}
+use Rattle.records.specs.declared.Kind.the-variants.{Variables, Product, Factor as FactorKind, End}
+use Rattle.records.specs.Kinds.{wordOf}
+use Rattle.records.specs.Walks.{walkBy}
+use Rattle.records.proofs.KindBytes.{head-byte}
 use Rattle.product.specs.Product.{Factor, factor}
 use Rattle.records.specs.declared.Walk.the-variants.{Missing}
 use Rattle.form.specs.Form.{maxProducts}
@@ -31,36 +34,36 @@ place-on place k = let e : place + 1 + k ≡ place + suc k = omega arith in ap M
 
 cut-laying : {n : ℕ} {l : List ℕ} {products : ℕ} {earlier : List Factor} {all : ℕ} → Laying n l products earlier all → (place : ℕ) (front : List ℕ) (byte : ℕ) (more : List ℕ)
     → l ≡ front ++ (byte ∷ more) → walkFormFrom n 0 (behind products earlier) place front ≡ Missing (place + length front)
-unfolding walkFormFrom
+unfolding walkBy
 cut-laying (ends q w a) place [] b more e = let z : place ≡ place + 0 = omega arith in ap Missing z
-cut-laying (ends q w a) place (x ∷ []) b more e = rw (ap kindOf (first e) ∙ q) (place-on place 0)
-cut-laying (ends q w a) place (x ∷ y ∷ []) b more e = rw (ap kindOf (first e) ∙ q) (place-on place 1)
+cut-laying (ends q w a) place (x ∷ []) b more e = rw (first e ∙ q, head-byte End place) (place-on place 0)
+cut-laying (ends q w a) place (x ∷ y ∷ []) b more e = rw (first e ∙ q, head-byte End place) (place-on place 1)
 cut-laying (ends q w a) place (x ∷ y ∷ z ∷ front) b more e = not-cut front b more (others (others (others e)))
 cut-laying (begins q h r) place [] b more e = let z : place ≡ place + 0 = omega arith in ap Missing z
 cut-laying {products = products} (begins q h r) place (x ∷ front) b more e =
-    rw (ap kindOf (first e) ∙ q, lt-ltb products maxProducts h, le-leb 0 (length front) (omega arith)) (cut-laying r (place + 1) front b more (others e) ∙ place-on place (length front))
+    rw (first e ∙ q, head-byte Product place, lt-ltb products maxProducts h, le-leb 0 (length front) (omega arith)) (cut-laying r (place + 1) front b more (others e) ∙ place-on place (length front))
 cut-laying (holds q nz f a r) place [] b more e = let z : place ≡ place + 0 = omega arith in ap Missing z
 cut-laying {products = products} (holds q nz f a r) place (x ∷ []) b more e =
-    rw (ap kindOf (first e) ∙ q, ne-eqb products 0 nz) (place-on place 0)
+    rw (first e ∙ q, head-byte FactorKind place, ne-eqb products 0 nz) (place-on place 0)
 cut-laying {products = products} (holds q nz f a r) place (x ∷ y ∷ []) b more e =
-    rw (ap kindOf (first e) ∙ q, ne-eqb products 0 nz) (place-on place 1)
+    rw (first e ∙ q, head-byte FactorKind place, ne-eqb products 0 nz) (place-on place 1)
 cut-laying {products = products} (holds q nz f a r) place (x ∷ y ∷ z ∷ []) b more e =
-    rw (ap kindOf (first e) ∙ q, ne-eqb products 0 nz) (place-on place 2)
+    rw (first e ∙ q, head-byte FactorKind place, ne-eqb products 0 nz) (place-on place 2)
 cut-laying {n = n} {products = products} {earlier = earlier} (holds {constant = constant} {low = low} {high = high} q nz f a r) place (x ∷ y ∷ z ∷ v ∷ front) b more e =
     let rest = others (others (others (others e))) in
     let same : factor y (wordOf z v) ≡ factor constant (wordOf low high) = cc (first (others e), first (others (others e)), first (others (others (others e)))) in
     let on : place + 1 + 1 + 1 + 1 + length front ≡ place + suc (suc (suc (suc (length front)))) = omega arith in
-    rw (ap kindOf (first e) ∙ q, ne-eqb products 0 nz, le-leb 3 (length (y ∷ z ∷ v ∷ front)) (omega arith), same, f, a)
+    rw (first e ∙ q, head-byte FactorKind place, ne-eqb products 0 nz, le-leb 3 (length (y ∷ z ∷ v ∷ front)) (omega arith), same, f, a)
     (cut-laying r (place + 1 + 1 + 1 + 1) front b more rest ∙ ap Missing on)
 
 cut-laid : {l : List ℕ} {all : ℕ} → LaidAs l all → (front : List ℕ) (byte : ℕ) (more : List ℕ) → l ≡ front ++ (byte ∷ more) → walkedForm front ≡ Missing (length front)
-unfolding walkedForm walkFormFrom
+unfolding walkedForm walkBy
 cut-laid (form q v r) [] b more e = refl
-cut-laid (form q v r) (x ∷ []) b more e = rw (ap kindOf (first e) ∙ q)
+cut-laid (form q v r) (x ∷ []) b more e = rw (first e ∙ q, head-byte Variables 0)
 cut-laid (form {n = n} q v r) (x ∷ m ∷ front) b more e =
     let same = first (others e) in
     let on : 2 + length front ≡ suc (suc (length front)) = omega arith in
-    rw (ap kindOf (first e) ∙ q, le-leb 1 (length (m ∷ front)) (omega arith), same, v) (cut-laying r 2 front b more (others (others e)) ∙ ap Missing on)
+    rw (first e ∙ q, head-byte Variables 0, le-leb 1 (length (m ∷ front)) (omega arith), same, v) (cut-laying r 2 front b more (others (others e)) ∙ ap Missing on)
 
 -- A form without some bytes at its end.
 pub form-cut : (bytes : List ℕ) (byte : ℕ) (more : List ℕ) → IsForm (bytes ++ (byte ∷ more)) → walkedForm bytes ≡ Missing (length bytes)

@@ -13,9 +13,8 @@ use lib.ListN.{length}
 use Rattle.gf2.specs.Limits.{maxVariables}
 use Rattle.gf2.specs.Finite.{Mem}
 use Rattle.gf2.proofs.Logic.{and-r, and-i}
-use Rattle.records.specs.declared.Kind.the-variants.{Variables, Product, Factor as FactorKind, End}
-use Rattle.records.specs.Kinds.{variablesKind, productKind, factorKind, endKind, kindOf, wordOf, lowByte, highByte, Bytes, encodeEnd}
-use Rattle.records.proofs.KindBytes.{kind-byte, word-of-bytes, low-of-word, high-of-word}
+use Rattle.records.specs.Kinds.{productKind, factorKind, endKind, wordOf, lowByte, highByte, Bytes, encodeEnd}
+use Rattle.records.proofs.KindBytes.{word-of-bytes, low-of-word, high-of-word}
 use Rattle.table.proofs.Table.{good-count}
 use Rattle.product.specs.Product.{Factor, factor, fits, AllFit, Canonical, canonical, agrees}
 use Rattle.product.proofs.Product.{fits-is, canonical-is, canonical-next, canonical-prefix}
@@ -29,36 +28,20 @@ use Rattle.form.proofs.Laying.{Laying, ends, begins, holds, LaidAs, for
 
 -- ---- the parts of each record and of those that follow
 
-pub parts-end : (byte : ℕ) (rest : List ℕ) → kindOf byte ≡ End → partsFrom 0 (byte ∷ rest) ≡ noParts
+pub parts-end : (byte : ℕ) (rest : List ℕ) → byte ≡ endKind → partsFrom 0 (byte ∷ rest) ≡ noParts
 unfolding partsFrom
 parts-end byte rest q = rw q
 
-pub parts-product : (byte : ℕ) (rest : List ℕ) → kindOf byte ≡ Product → partsFrom 0 (byte ∷ rest) ≡ record { factors = []; products = partsFrom 0 rest .factors ∷ partsFrom 0 rest .products }
+pub parts-product : (byte : ℕ) (rest : List ℕ) → byte ≡ productKind → partsFrom 0 (byte ∷ rest) ≡ record { factors = []; products = partsFrom 0 rest .factors ∷ partsFrom 0 rest .products }
 unfolding partsFrom
 parts-product byte rest q = rw q
 
-pub parts-factor : (byte constant low high : ℕ) (rest : List ℕ) → kindOf byte ≡ FactorKind
+pub parts-factor : (byte constant low high : ℕ) (rest : List ℕ) → byte ≡ factorKind
     → partsFrom 0 (byte ∷ constant ∷ low ∷ high ∷ rest) ≡ record { factors = factor constant (wordOf low high) ∷ partsFrom 0 rest .factors; products = partsFrom 0 rest .products }
 unfolding partsFrom
 parts-factor byte constant low high rest q = rw q
 
 -- ---- what is written is read
-
-product-kind : kindOf productKind ≡ Product
-unfolding kindOf
-product-kind = refl
-
-factor-kind : kindOf factorKind ≡ FactorKind
-unfolding kindOf
-factor-kind = refl
-
-end-kind : kindOf endKind ≡ End
-unfolding kindOf
-end-kind = refl
-
-variables-kind : kindOf variablesKind ≡ Variables
-unfolding kindOf
-variables-kind = refl
 
 -- A factor is the one that its bytes give.
 same-factor : (f : Factor) → factor (f .constant) (wordOf (lowByte (f .mask)) (highByte (f .mask))) ≡ f
@@ -74,7 +57,7 @@ factors-laying n (f ∷ fs) rest products earlier all nz fit can r =
     let next : canonical (earlier ++ (f ∷ [])) ≡ true = canonical-prefix (earlier ++ (f ∷ [])) fs (ap canonical split ∙ can) in
     let agreed : agrees earlier f ≡ true = and-r (canonical earlier) (agrees earlier f) (sym (canonical-next earlier f) ∙ next) in
     let later = factors-laying n fs rest products (earlier ++ (f ∷ [])) all nz (λ g m. fit g (inr m)) (ap canonical split ∙ can) (subst (λ (l : List Factor). Laying n rest products l all) (sym split) r) in
-    holds factor-kind nz (ap (fits n) same ∙ fits-is n f .1 (fit f (inl refl))) (ap (agrees earlier) same ∙ agreed)
+    holds refl nz (ap (fits n) same ∙ fits-is n f .1 (fit f (inl refl))) (ap (agrees earlier) same ∙ agreed)
     (subst (λ (g : Factor). Laying n (encodeFactors fs ++ rest) products (earlier ++ (g ∷ [])) all) (sym same) later)
 
 products-laying : (n : ℕ) (ps : List (List Factor)) (products : ℕ) (earlier : List Factor) (all : ℕ) → products + length ps ≡ all → all ≤ maxProducts
@@ -82,32 +65,32 @@ products-laying : (n : ℕ) (ps : List (List Factor)) (products : ℕ) (earlier 
 unfolding encodeProducts
 products-laying n [] products earlier all e few fit can =
     let same : all ≡ products = omega arith in
-    ends end-kind (word-of-bytes all ∙ same) (sym same)
+    ends refl (word-of-bytes all ∙ same) (sym same)
 products-laying n (p ∷ ps) products earlier all e few fit can =
     let later = products-laying n ps (products + 1) p all (omega arith) few (λ q m. fit q (inr m)) (λ q m. can q (inr m)) in
     let room : products < maxProducts = omega arith in
     let body : Laying n ((encodeFactors p ++ encodeProducts ps) ++ encodeEnd all) (products + 1) [] all =
     rw (append-assoc (encodeFactors p) (encodeProducts ps) (encodeEnd all))
     (factors-laying n p (encodeProducts ps ++ encodeEnd all) (products + 1) [] all (λ z. omega arith) (fit p (inl refl)) (canonical-is p .1 (can p (inl refl))) later) in
-    begins product-kind room body
+    begins refl room body
 
 pub encoded-laid : (f : Form) → ValidForm f → LaidAs (encodeForm f) (length (f .products))
 unfolding encodeForm
 encoded-laid f v =
-    form variables-kind (good-count (f .variables) .1 (v .some, v .few))
+    form refl (good-count (f .variables) .1 (v .some, v .few))
     (products-laying (f .variables) (f .products) 0 [] (length (f .products)) (omega arith) (v .short) (v .fitting) (v .canonicals))
 
 factors-read : (fs : List Factor) (rest : List ℕ) → partsFrom 0 (encodeFactors fs ++ rest) ≡ record { factors = fs ++ partsFrom 0 rest .factors; products = partsFrom 0 rest .products }
 unfolding encodeFactors
 factors-read [] rest = refl
 factors-read (f ∷ fs) rest =
-    parts-factor factorKind (f .constant) (lowByte (f .mask)) (highByte (f .mask)) (encodeFactors fs ++ rest) factor-kind ∙ rw (factors-read fs rest, same-factor f)
+    parts-factor factorKind (f .constant) (lowByte (f .mask)) (highByte (f .mask)) (encodeFactors fs ++ rest) refl ∙ rw (factors-read fs rest, same-factor f)
 
 products-read : (ps : List (List Factor)) (all : ℕ) → partsFrom 0 (encodeProducts ps ++ encodeEnd all) ≡ record { factors = []; products = ps }
 unfolding encodeProducts
-products-read [] all = parts-end endKind (lowByte all ∷ highByte all ∷ []) end-kind
+products-read [] all = parts-end endKind (lowByte all ∷ highByte all ∷ []) refl
 products-read (p ∷ ps) all =
-    parts-product productKind ((encodeFactors p ++ encodeProducts ps) ++ encodeEnd all) product-kind
+    parts-product productKind ((encodeFactors p ++ encodeProducts ps) ++ encodeEnd all) refl
     ∙ rw (append-assoc (encodeFactors p) (encodeProducts ps) (encodeEnd all), factors-read p (encodeProducts ps ++ encodeEnd all), products-read ps all, append-nil p)
 
 -- The form that was written is read.
@@ -202,16 +185,13 @@ written-end all = refl
 
 laying-written : {n : ℕ} {rest : List ℕ} {products : ℕ} {earlier : List Factor} {all : ℕ} → Bytes rest → Laying n rest products earlier all → rest ≡ written (partsFrom 0 rest) all
 laying-written {all = all} b (ends {byte = byte} {low = low} {high = high} q w a) =
-    let first = kind-byte byte q in
     let second : low ≡ lowByte all = sym (low-of-word low high (b low (inr (inl refl)))) ∙ ap lowByte (w ∙ a) in
     let third : high ≡ highByte all = sym (high-of-word low high (b low (inr (inl refl)))) ∙ ap highByte (w ∙ a) in
     rw (parts-end byte (low ∷ high ∷ []) q, written-end all) (cc)
 laying-written {all = all} b (begins {byte = byte} {rest = rest} q h r) =
-    let first = kind-byte byte q in
     let later = laying-written (λ x m. b x (inr m)) r in
     rw (parts-product byte rest q, written-product (partsFrom 0 rest .factors) (partsFrom 0 rest .products) all) (cc)
 laying-written {all = all} b (holds {byte = byte} {constant = constant} {low = low} {high = high} {rest = rest} q nz f a r) =
-    let first = kind-byte byte q in
     let third : low ≡ lowByte (wordOf low high) = sym (low-of-word low high (b low (inr (inr (inl refl))))) in
     let fourth : high ≡ highByte (wordOf low high) = sym (high-of-word low high (b low (inr (inr (inl refl))))) in
     let later = laying-written (λ x m. b x (inr (inr (inr (inr m))))) r in
@@ -230,7 +210,6 @@ no-encoding = refl
 as-written : {bytes : List ℕ} {all : ℕ} → Bytes bytes → LaidAs bytes all → encodeForm (decodeForm bytes) ≡ bytes
 unfolding encodeForm
 as-written b (form {byte = byte} {n = n} {rest = rest} {all = all} q v r) =
-    let first : byte ≡ variablesKind = kind-byte byte q in
     let later = laying-written (λ x m. b x (inr (inr m))) r in
     let none : encodeFactors (partsFrom 0 rest .factors) ≡ [] = ap encodeFactors (laying-first refl r) ∙ no-encoding in
     let count : length (partsFrom 0 rest .products) ≡ all = omega (arith, laying-count r) in

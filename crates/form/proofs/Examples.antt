@@ -7,7 +7,8 @@ use lib.ListN.{replicate}
 use Rattle.gf2.specs.Bits.{bit}
 use Rattle.gf2.specs.Finite.{select}
 use Rattle.gf2.specs.Parity.{oddIn, odd}
-use Rattle.records.specs.Kinds.{kindOf}
+use Rattle.records.specs.Kinds.{headOf}
+use Rattle.records.specs.Walks.{walkBy}
 use Rattle.table.specs.Table.{badCount}
 use Rattle.product.specs.Lowest.{evenHalvings, lowest}
 use Rattle.product.specs.Product.{factorAt, productAt, someProductAt, fits, apartMasks, apart, agrees}
@@ -15,7 +16,7 @@ use Rattle.records.specs.declared.Walk.the-variants.{Laid, WrongKind, Missing, 
 use Rattle.form.specs.Form.{formPoints}
 use Rattle.form.specs.Encoding.{encodeFactors, encodeProducts, encodeForm}
 use Rattle.form.specs.Decoding.{partsFrom}
-use Rattle.form.specs.Walk.{walkFormFrom, walkedForm}
+use Rattle.form.specs.Walk.{walkedForm}
 use Rattle.form.specs.Reading.{pointsRead, rewritten}
 
 -- The forms of P1, P3 and P5.
@@ -76,7 +77,7 @@ pub record Examples : Type 0 where
   pub too-many : walkedForm (empties 65) ≡ TooMany 66
 
 pub examples : Examples
-unfolding walkedForm walkFormFrom kindOf badCount fits agrees apart apartMasks lowest evenHalvings bit partsFrom formPoints select someProductAt productAt factorAt odd oddIn encodeForm encodeProducts encodeFactors
+unfolding walkedForm walkBy headOf badCount fits agrees apart apartMasks lowest evenHalvings bit partsFrom formPoints select someProductAt productAt factorAt odd oddIn encodeForm encodeProducts encodeFactors
 examples =
     record {
       p1 = refl;

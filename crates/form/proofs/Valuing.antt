@@ -8,9 +8,7 @@ use Prim.Native.Nat.{ℕ, _≤_, _<_, _+_}
 use native.Mathlib.Omega.{arith}
 use lib.ListN.{length, drop, getD, length-drop}
 use lib.Seq.{getD-drop, drop-drop}
-use Rattle.records.specs.declared.Kind.{Kind}
-use Rattle.records.specs.declared.Kind.the-variants.{Product, Factor as FactorKind, End}
-use Rattle.records.specs.Kinds.{kindOf}
+use Rattle.records.specs.Kinds.{productKind, factorKind}
 use Rattle.product.specs.Product.{Factor, factorAt, productAt, someProductAt}
 use Rattle.form.specs.Decoding.{factorOf, Parts, noParts, partsFrom}
 use Rattle.form.proofs.Laying.{Laying, ends, begins, holds, LaidAs, form}
@@ -58,34 +56,24 @@ rest-first (form q b r) = rest r
 
 -- ---- each record, by its kind
 
--- A kind is not two.
-end-product : {A : Type 0} {k : Kind} → k ≡ End → k ≡ Product → A
-end-product p q = let z : _≡_ {A = ℕ} 0 1 = cc in absurd (omega arith)
-
-end-factor : {A : Type 0} {k : Kind} → k ≡ End → k ≡ FactorKind → A
-end-factor p q = let z : _≡_ {A = ℕ} 0 1 = cc in absurd (omega arith)
-
-product-factor : {A : Type 0} {k : Kind} → k ≡ Product → k ≡ FactorKind → A
-product-factor p q = let z : _≡_ {A = ℕ} 0 1 = cc in absurd (omega arith)
-
 some : {n : ℕ} {l : List ℕ} {products : ℕ} {earlier : List Factor} {all : ℕ} → Laying n l products earlier all → 0 < length l
 some (ends q w a) = omega arith
 some (begins q h r) = omega arith
 some (holds q nz f a r) = omega arith
 
-product-next : {n : ℕ} {l : List ℕ} {products : ℕ} {earlier : List Factor} {all : ℕ} → Laying n l products earlier all → kindOf (getD l 0 0) ≡ Product
+product-next : {n : ℕ} {l : List ℕ} {products : ℕ} {earlier : List Factor} {all : ℕ} → Laying n l products earlier all → getD l 0 0 ≡ productKind
     → Rest (drop 1 l) × (partsFrom 0 l ≡ record { factors = []; products = partsFrom 0 (drop 1 l) .factors ∷ partsFrom 0 (drop 1 l) .products })
-product-next (ends q w a) p = end-product q p
+product-next (ends q w a) p = absurd (omega arith)
 product-next (begins {byte = byte} {rest = tail} q h r) p = (rest r, parts-product byte tail q)
-product-next (holds q nz f a r) p = product-factor p q
+product-next (holds q nz f a r) p = absurd (omega arith)
 
-factor-next : {n : ℕ} {l : List ℕ} {products : ℕ} {earlier : List Factor} {all : ℕ} → Laying n l products earlier all → kindOf (getD l 0 0) ≡ FactorKind
+factor-next : {n : ℕ} {l : List ℕ} {products : ℕ} {earlier : List Factor} {all : ℕ} → Laying n l products earlier all → getD l 0 0 ≡ factorKind
     → (4 ≤ length l) × Rest (drop 4 l) × (partsFrom 0 l ≡ record { factors = factorOf (drop 1 l) ∷ partsFrom 0 (drop 4 l) .factors; products = partsFrom 0 (drop 4 l) .products })
-factor-next (ends q w a) p = end-factor q p
-factor-next (begins q h r) p = product-factor q p
+factor-next (ends q w a) p = absurd (omega arith)
+factor-next (begins q h r) p = absurd (omega arith)
 factor-next (holds {byte = byte} {constant = constant} {low = low} {high = high} {rest = tail} q nz f a r) p = (omega arith, rest r, parts-factor byte constant low high tail q)
 
-end-next : {n : ℕ} {l : List ℕ} {products : ℕ} {earlier : List Factor} {all : ℕ} → Laying n l products earlier all → kindOf (getD l 0 0) ≢ Product → kindOf (getD l 0 0) ≢ FactorKind → partsFrom 0 l ≡ noParts
+end-next : {n : ℕ} {l : List ℕ} {products : ℕ} {earlier : List Factor} {all : ℕ} → Laying n l products earlier all → getD l 0 0 ≢ productKind → getD l 0 0 ≢ factorKind → partsFrom 0 l ≡ noParts
 end-next (ends {byte = byte} {low = low} {high = high} q w a) p f = parts-end byte (low ∷ high ∷ []) q
 end-next (begins q h r) p f = absurd (p q)
 end-next (holds q nz g a r) p f = absurd (f q)
@@ -95,17 +83,17 @@ module _ (bytes : List ℕ) (place : ℕ) (r : Rest (drop place bytes)) where
   pub rest-there : place < length bytes
   rest-there = omega (arith, some (r .laying), length-drop place bytes)
 
-  kind-at : kindOf (getD (drop place bytes) 0 0) ≡ kindOf (getD bytes place 0)
-  kind-at = let same : place + 0 ≡ place = omega arith in ap kindOf (getD-drop place bytes 0 0 ∙ ap (λ (p : ℕ). getD bytes p 0) same)
+  kind-at : getD (drop place bytes) 0 0 ≡ getD bytes place 0
+  kind-at = let same : place + 0 ≡ place = omega arith in getD-drop place bytes 0 0 ∙ ap (λ (p : ℕ). getD bytes p 0) same
 
-  pub product-at : kindOf (getD bytes place 0) ≡ Product
+  pub product-at : getD bytes place 0 ≡ productKind
       → Rest (drop (place + 1) bytes) × ((inside : Bool) (w : ℕ) → valueFrom inside (partsFrom 0 (drop place bytes)) w ≡ inside || valueFrom true (partsFrom 0 (drop (place + 1) bytes)) w)
   product-at q =
       let h = product-next (r .laying) (kind-at ∙ q) in
       let on = drop-drop 1 place bytes in
       (rw on at (h .0), λ inside w. ap (λ (p : Parts). valueFrom inside p w) (h .1) ∙ rw on (value-product inside (partsFrom 0 (drop (place + 1) bytes) .factors) (partsFrom 0 (drop (place + 1) bytes) .products) w))
 
-  pub factor-at : kindOf (getD bytes place 0) ≡ FactorKind
+  pub factor-at : getD bytes place 0 ≡ factorKind
       → (place + 4 ≤ length bytes) × Rest (drop (place + 4) bytes)
       × ((inside : Bool) (w : ℕ) → valueFrom inside (partsFrom 0 (drop place bytes)) w ≡ valueFrom (inside && factorAt (factorOf (drop (place + 1) bytes)) w) (partsFrom 0 (drop (place + 4) bytes)) w)
   factor-at q =
@@ -117,5 +105,5 @@ module _ (bytes : List ℕ) (place : ℕ) (r : Rest (drop place bytes)) where
         λ inside w. ap (λ (p : Parts). valueFrom inside p w) (h .2) ∙ rw (on, body) (value-factor inside (factorOf (drop (place + 1) bytes)) (partsFrom 0 (drop (place + 4) bytes)) w),
       )
 
-  pub end-at : kindOf (getD bytes place 0) ≢ Product → kindOf (getD bytes place 0) ≢ FactorKind → (inside : Bool) (w : ℕ) → valueFrom inside (partsFrom 0 (drop place bytes)) w ≡ inside
+  pub end-at : getD bytes place 0 ≢ productKind → getD bytes place 0 ≢ factorKind → (inside : Bool) (w : ℕ) → valueFrom inside (partsFrom 0 (drop place bytes)) w ≡ inside
   end-at p f inside w = ap (λ (q : Parts). valueFrom inside q w) (end-next (r .laying) (λ e. p (sym kind-at ∙ e)) (λ e. f (sym kind-at ∙ e))) ∙ value-end inside w

@@ -4,19 +4,21 @@ use mathlib.Core.Path.{_≡_, refl, sym, ap, _∙_, subst}
 use mathlib.Core.Bool.{true, false, cond, _&&_, and-assoc}
 use mathlib.Core.List.{List, [], _∷_, _++_}
 use mathlib.Core.Logic.{inl, inr}
-use Prim.Native.Nat.{ℕ, zero, suc, _≤_, _<_, _+_, _-_}
-use native.Mathlib.Nat.{le-of-suc-le-suc, not-suc-le-zero}
+use Prim.Native.Nat.{ℕ, suc, _≤_, _<_, _+_, _-_}
+use native.Mathlib.Nat.{not-suc-le-zero}
 use native.Mathlib.Numerals.{add-one}
 use native.Mathlib.Omega.{arith}
 use lib.Dec.{ltb, eqb}
 use borrow.Author.Tests.{ltb-true}
 use lib.ListN.{length, drop, getD, length-drop}
-use lib.Seq.{drop-cons, drop-drop, getD-drop}
+use lib.Seq.{drop-drop, getD-drop}
 use Rattle.gf2.proofs.Logic.{and-true}
 use Rattle.gf2.proofs.Finite.{mem-snoc, snoc-mem}
 use Rattle.records.specs.declared.Kind.{Kind}
-use Rattle.records.specs.declared.Kind.the-variants.{Variables, Product, Factor as FactorKind, End, On, Free, Unknown}
-use Rattle.records.specs.Kinds.{kindOf, bodyOf}
+use Rattle.records.specs.declared.Kind.the-variants.{Variables, Product, Factor as FactorKind, End, On, Free}
+use Rattle.records.specs.Kinds.{bodyLength}
+use Rattle.records.proofs.KindBytes.{kindByte}
+use Rattle.records.proofs.Walking.{pass}
 use Rattle.table.specs.Table.{badCount}
 use Rattle.product.specs.Product.{Factor, factor, AllFit, fits, apartMasks, apart, agrees}
 use Rattle.product.proofs.Product.{fits-is}
@@ -24,37 +26,38 @@ use Rattle.records.specs.declared.Walk.{Walk}
 use Rattle.records.specs.declared.Walk.the-variants.{WrongKind, Missing, WrongVariables, WrongFactor, NotCanonical, TooMany}
 use Rattle.records.specs.declared.Step.{Step}
 use Rattle.records.specs.declared.Step.the-variants.{Whole, Stop}
-use Rattle.records.specs.Walks.{bodyStep, endStep}
-use Rattle.records.proofs.Whole.{body-length, failed-test, not-whole, passed-test}
+use Rattle.records.specs.Walks.{bodyStep, endStep, bytesMissing}
+use Rattle.records.proofs.Whole.{body-length, failed-test, head-whole, not-whole, passed-test}
 use Rattle.form.specs.declared.Counts.{Counts}
 use Rattle.form.specs.Form.{maxProducts}
 use Rattle.form.specs.Decoding.{factorOf}
-use Rattle.form.specs.Walk.{variablesStep, firstFormStep, productStep, judgeStep, factorStep, Behind, behind, formStep, passed, walkFormFrom, walkedForm}
+use Rattle.form.specs.Walk.{variablesStep, firstFormKind, firstFormStep, productStep, judgeStep, factorStep, Behind, behind, laterFormKind, formStep, passed, walkFormFrom, walkedForm}
 use Rattle.form.specs.Counting.{factorLength, factorsBefore, behindBy, countsAfter, Counted}
 
 -- The first: its body is one byte, and n is that of a table.
-pub first-whole : (k : Kind) (rest : List ℕ) (l : ℕ) → firstFormStep k rest ≡ Whole l → (l ≡ 1) × (1 ≤ length rest) × (badCount (getD rest 0 0) ≡ false) × (k ≡ Variables)
-first-whole Variables rest l e = go (bodyStep (bodyOf Variables) 0 rest) refl e
+pub first-whole : (byte : ℕ) (rest : List ℕ) (l : ℕ) → firstFormStep byte rest ≡ Whole l → (l ≡ 1) × (1 ≤ length rest) × (badCount (getD rest 0 0) ≡ false)
+first-whole byte rest l e = let h = head-whole byte 0 (λ k m. firstFormKind k m rest) e in kinds (h .0) (h .2)
   where
-    go : (s : Step) → bodyStep (bodyOf Variables) 0 rest ≡ s → variablesStep s rest ≡ Whole l
-        → (l ≡ 1) × (1 ≤ length rest) × (badCount (getD rest 0 0) ≡ false) × (Variables ≡ Variables)
+    go : (s : Step) → bodyStep 1 0 rest ≡ s → variablesStep s rest ≡ Whole l → (l ≡ 1) × (1 ≤ length rest) × (badCount (getD rest 0 0) ≡ false)
     go (Stop fault) p q = not-whole q
     go (Whole m) p q =
         let h = failed-test (badCount (getD rest 0 0)) (Whole m) (WrongVariables 1) q in
         let b = body-length 1 0 rest m p in
         let same : l ≡ m = cc (h .1) in
-        (same ∙ b .0, b .1, h .0, refl)
-first-whole Product rest l e = not-whole e
-first-whole FactorKind rest l e = not-whole e
-first-whole End rest l e = not-whole e
-first-whole On rest l e = not-whole e
-first-whole Free rest l e = not-whole e
-first-whole Unknown rest l e = not-whole e
+        (same ∙ b .0, b .1, h .0)
+
+    kinds : (k : Kind) → firstFormKind k (bodyLength k) rest ≡ Whole l → (l ≡ 1) × (1 ≤ length rest) × (badCount (getD rest 0 0) ≡ false)
+    kinds Variables q = go (bodyStep 1 0 rest) refl q
+    kinds Product q = not-whole q
+    kinds FactorKind q = not-whole q
+    kinds End q = not-whole q
+    kinds On q = not-whole q
+    kinds Free q = not-whole q
 
 -- A product: it has no body, and there are not too many.
-pub product-whole : (products place : ℕ) (rest : List ℕ) (l : ℕ) → productStep products place rest ≡ Whole l → (l ≡ 0) × (products < maxProducts)
+pub product-whole : (products place : ℕ) (rest : List ℕ) (l : ℕ) → productStep products 0 place rest ≡ Whole l → (l ≡ 0) × (products < maxProducts)
 product-whole products place rest l e =
-    let h = passed-test (ltb products maxProducts) (bodyStep (bodyOf Product) place rest) (TooMany place) e in
+    let h = passed-test (ltb products maxProducts) (bodyStep 0 place rest) (TooMany place) e in
     (body-length 0 place rest l (h .1) .0, ltb-true products maxProducts (h .0))
 
 -- A factor: a product has begun, its body is three bytes, it fits and agrees.
@@ -65,12 +68,12 @@ pub record WholeFactor (n products : ℕ) (earlier : List Factor) (rest : List �
   pub fitting : fits n (factorOf rest) ≡ true
   pub agreeing : agrees earlier (factorOf rest) ≡ true
 
-pub factor-whole : (n products : ℕ) (earlier : List Factor) (place : ℕ) (rest : List ℕ) (l : ℕ) → factorStep n products earlier place rest ≡ Whole l → WholeFactor n products earlier rest l
+pub factor-whole : (n products : ℕ) (earlier : List Factor) (place : ℕ) (rest : List ℕ) (l : ℕ) → factorStep n products earlier 3 place rest ≡ Whole l → WholeFactor n products earlier rest l
 factor-whole n products earlier place rest l e =
-    let h = failed-test (eqb products 0) (judgeStep (bodyStep (bodyOf FactorKind) place rest) n earlier place (factorOf rest)) (WrongKind place) e in
-    go (h .0) (bodyStep (bodyOf FactorKind) place rest) refl (h .1)
+    let h = failed-test (eqb products 0) (judgeStep (bodyStep 3 place rest) n earlier place (factorOf rest)) (WrongKind place) e in
+    go (h .0) (bodyStep 3 place rest) refl (h .1)
   where
-    go : eqb products 0 ≡ false → (s : Step) → bodyStep (bodyOf FactorKind) place rest ≡ s → judgeStep s n earlier place (factorOf rest) ≡ Whole l → WholeFactor n products earlier rest l
+    go : eqb products 0 ≡ false → (s : Step) → bodyStep 3 place rest ≡ s → judgeStep s n earlier place (factorOf rest) ≡ Whole l → WholeFactor n products earlier rest l
     go i (Stop fault) p q = not-whole q
     go i (Whole m) p q =
         let f = passed-test (fits n (factorOf rest)) (cond (agrees earlier (factorOf rest)) (Whole m) (Stop (NotCanonical (place + 1)))) (WrongFactor (place + 1)) q in
@@ -85,14 +88,18 @@ end-whole (Stop fault) products place rest l e = not-whole e
 end-whole (Whole m) products place rest l e = not-whole e
 
 -- Any record that is passed leaves its body behind.
-pub record-whole : (n : ℕ) (b : Behind) (k : Kind) (place : ℕ) (rest : List ℕ) (l : ℕ) → formStep n b k place rest ≡ Whole l → l ≤ length rest
-record-whole n b Product place rest l e = let h = product-whole (b .products) place rest l e in omega (arith, h .0)
-record-whole n b FactorKind place rest l e = let h = factor-whole n (b .products) (b .factors) place rest l e in omega (arith, h .long, h .there)
-record-whole n b End place rest l e = end-whole (bodyStep (bodyOf End) place rest) (b .products) place rest l e
-record-whole n b Variables place rest l e = not-whole e
-record-whole n b On place rest l e = not-whole e
-record-whole n b Free place rest l e = not-whole e
-record-whole n b Unknown place rest l e = not-whole e
+kind-whole : (n : ℕ) (b : Behind) (k : Kind) (place : ℕ) (rest : List ℕ) (l : ℕ) → laterFormKind n b k (bodyLength k) place rest ≡ Whole l → l ≤ length rest
+kind-whole n b Product place rest l e = let h = product-whole (b .products) place rest l e in omega (arith, h .0)
+kind-whole n b FactorKind place rest l e = let h = factor-whole n (b .products) (b .factors) place rest l e in omega (arith, h .long, h .there)
+kind-whole n b End place rest l e = end-whole (bodyStep 2 place rest) (b .products) place rest l e
+kind-whole n b Variables place rest l e = not-whole e
+kind-whole n b On place rest l e = not-whole e
+kind-whole n b Free place rest l e = not-whole e
+
+pub record-whole : (n : ℕ) (b : Behind) (byte place : ℕ) (rest : List ℕ) (l : ℕ) → formStep n b byte place rest ≡ Whole l → l ≤ length rest
+record-whole n b byte place rest l e =
+    let h = head-whole byte place (λ k m. laterFormKind n b k m place rest) e in
+    kind-whole n b (h .0) place rest l (h .2)
 
 -- The factor whose record begins at a place: its constant is the first byte of its body.
 pub factor-read : (bytes : List ℕ) (place : ℕ) → factor (getD bytes (place + 1) 0) (factorOf (drop (place + 1) bytes) .mask) ≡ factorOf (drop (place + 1) bytes)
@@ -100,54 +107,27 @@ factor-read bytes place =
     let same : place + 1 + 0 ≡ place + 1 = omega arith in
     ap (λ (constant : ℕ). factor constant (factorOf (drop (place + 1) bytes) .mask)) (sym (getD-drop (place + 1) bytes 0 0 ∙ ap (λ (p : ℕ). getD bytes p 0) same))
 
--- ---- the walk, a record more
+-- ---- the walk over a whole input
 
--- A body that is there is passed.
-pub pass : (n skip : ℕ) (b : Behind) (place : ℕ) (rest : List ℕ) → skip ≤ length rest → walkFormFrom n skip b place rest ≡ walkFormFrom n 0 b (place + skip) (drop skip rest)
-unfolding walkFormFrom
-pass n zero b place rest h = let e : place ≡ place + 0 = omega arith in ap (λ (p : ℕ). walkFormFrom n 0 b p rest) e
-pass n (suc k) b place [] h = absurd (not-suc-le-zero h)
-pass n (suc k) b place (c ∷ rest) h =
-    let e : place + 1 + k ≡ place + suc k = omega arith in
-    pass n k b (place + 1) rest (le-of-suc-le-suc h) ∙ ap (λ (p : ℕ). walkFormFrom n 0 b p (drop k rest)) e
-
--- The walk at a place of the bytes where a record begins: it ends there, or goes on after the record.
-module _ (n : ℕ) (s : List ℕ) (b : Behind) (place : ℕ) (h : place < length s) where
-  opened : drop place s ≡ getD s place 0 ∷ drop (place + 1) s
-  opened = rw (add-one, drop-cons s place 0)
-
-  pub walk-ends : (w : Walk) → formStep n b (kindOf (getD s place 0)) place (drop (place + 1) s) ≡ Stop w → walkFormFrom n 0 b place (drop place s) ≡ w
-  unfolding walkFormFrom
-  walk-ends w e = rw (opened, e)
-
-  pub walk-goes : (l : ℕ) → formStep n b (kindOf (getD s place 0)) place (drop (place + 1) s) ≡ Whole l
-      → walkFormFrom n 0 b place (drop place s) ≡ walkFormFrom n 0 (passed (kindOf (getD s place 0)) (drop (place + 1) s) b) (place + 1 + l) (drop (place + 1 + l) s)
-  unfolding walkFormFrom
-  walk-goes l e =
-      let after = passed (kindOf (getD s place 0)) (drop (place + 1) s) b in
-      let there = record-whole n b (kindOf (getD s place 0)) place (drop (place + 1) s) l e in
-      let on = pass n l after (place + 1) (drop (place + 1) s) there ∙ ap (walkFormFrom n 0 after (place + 1 + l)) (drop-drop l (place + 1) s) in
-      rw (opened, e) on
-
--- The walk over a whole input: it ends at the first record, or goes on after it.
+-- It ends at the first record, or goes on after it.
 pub walk-none : (s : List ℕ) → length s ≡ 0 → walkedForm s ≡ Missing 0
 unfolding walkedForm
 walk-none [] h = refl
 walk-none (c ∷ rest) h = absurd (omega arith)
 
-pub first-ends : (s : List ℕ) (w : Walk) → 0 < length s → firstFormStep (kindOf (getD s 0 0)) (drop 1 s) ≡ Stop w → walkedForm s ≡ w
+pub first-ends : (s : List ℕ) (w : Walk) → 0 < length s → firstFormStep (getD s 0 0) (drop 1 s) ≡ Stop w → walkedForm s ≡ w
 unfolding walkedForm
 first-ends [] w h e = absurd (not-suc-le-zero h)
 first-ends (c ∷ rest) w h e = rw e
 
-pub first-goes : (s : List ℕ) (l : ℕ) → 0 < length s → firstFormStep (kindOf (getD s 0 0)) (drop 1 s) ≡ Whole l
+pub first-goes : (s : List ℕ) (l : ℕ) → 0 < length s → firstFormStep (getD s 0 0) (drop 1 s) ≡ Whole l
     → walkedForm s ≡ walkFormFrom (getD s 1 0) 0 (behind 0 []) (1 + l) (drop (1 + l) s)
 unfolding walkedForm
 first-goes [] l h e = absurd (not-suc-le-zero h)
 first-goes (c ∷ rest) l h e =
-    let w = first-whole (kindOf c) rest l e in
+    let w = first-whole c rest l e in
     let there : l ≤ length rest = omega (arith, w .0, w .1) in
-    rw e (pass (getD rest 0 0) l (behind 0 []) 1 rest there ∙ ap (walkFormFrom (getD rest 0 0) 0 (behind 0 []) (1 + l)) (drop-drop l 1 (c ∷ rest)))
+    rw e (pass (formStep (getD rest 0 0)) passed bytesMissing l (behind 0 []) 1 rest there ∙ ap (walkFormFrom (getD rest 0 0) 0 (behind 0 []) (1 + l)) (drop-drop l 1 (c ∷ rest)))
 
 -- ---- the counts, a record more
 
@@ -159,9 +139,9 @@ factors-more k bytes place =
     rw e
 
 -- A record that is passed: the counts are again those of a walk, and say what lies behind it then.
-pub record Carried (n : ℕ) (bytes : List ℕ) (k : Kind) (counts : Counts) (place l : ℕ) : Type 0 where
-  pub counted : Counted n bytes (countsAfter k counts) (place + 1 + l)
-  pub behindThen : behindBy bytes (countsAfter k counts) (place + 1 + l) ≡ passed k (drop (place + 1) bytes) (behindBy bytes counts place)
+pub record Carried (n : ℕ) (bytes : List ℕ) (kind : ℕ) (counts : Counts) (place l : ℕ) : Type 0 where
+  pub counted : Counted n bytes (countsAfter kind counts) (place + 1 + l)
+  pub behindThen : behindBy bytes (countsAfter kind counts) (place + 1 + l) ≡ passed (behindBy bytes counts place) kind (drop (place + 1) bytes)
 
 pub none-fit : (n : ℕ) (bytes : List ℕ) (place : ℕ) → AllFit n (factorsBefore 0 bytes place)
 unfolding factorsBefore
@@ -172,14 +152,14 @@ unfolding factorsBefore
 no-factors bytes place = refl
 
 module _ (n : ℕ) (bytes : List ℕ) (counts : Counts) (place : ℕ) (c : Counted n bytes counts place) (h : place < length bytes) where
-  pub carried : (k : Kind) (l : ℕ) → formStep n (behindBy bytes counts place) k place (drop (place + 1) bytes) ≡ Whole l → Carried n bytes k counts place l
-  carried Product l e =
+  carried-kind : (k : Kind) (l : ℕ) → laterFormKind n (behindBy bytes counts place) k (bodyLength k) place (drop (place + 1) bytes) ≡ Whole l → Carried n bytes (kindByte k) counts place l
+  carried-kind Product l e =
       let w = product-whole (counts .products) place (drop (place + 1) bytes) l e in
       record {
         counted = record { few = c .few; within = omega (arith, w .0); begun = omega (arith, c .begun); room = omega arith; fitting = none-fit n bytes (place + 1 + l) };
         behindThen = ap (behind (counts .products + 1)) (no-factors bytes (place + 1 + l));
       }
-  carried FactorKind l e =
+  carried-kind FactorKind l e =
       let w = factor-whole n (counts .products) (factorsBefore (counts .factors) bytes place) place (drop (place + 1) bytes) l e in
       let next : place + 1 + l ≡ place + factorLength = omega (arith, w .long) in
       let more : factorsBefore (counts .factors + 1) bytes (place + 1 + l) ≡ factorsBefore (counts .factors) bytes place ++ (factorOf (drop (place + 1) bytes) ∷ [])
@@ -198,11 +178,15 @@ module _ (n : ℕ) (bytes : List ℕ) (counts : Counts) (place : ℕ) (c : Count
         };
         behindThen = ap (behind (counts .products)) more;
       }
-  carried End l e = end-whole (bodyStep (bodyOf End) place (drop (place + 1) bytes)) (counts .products) place (drop (place + 1) bytes) l e
-  carried Variables l e = not-whole e
-  carried On l e = not-whole e
-  carried Free l e = not-whole e
-  carried Unknown l e = not-whole e
+  carried-kind End l e = end-whole (bodyStep 2 place (drop (place + 1) bytes)) (counts .products) place (drop (place + 1) bytes) l e
+  carried-kind Variables l e = not-whole e
+  carried-kind On l e = not-whole e
+  carried-kind Free l e = not-whole e
+
+  pub carried : (byte l : ℕ) → formStep n (behindBy bytes counts place) byte place (drop (place + 1) bytes) ≡ Whole l → Carried n bytes byte counts place l
+  carried byte l e =
+      let h = head-whole byte place (λ k m. laterFormKind n (behindBy bytes counts place) k m place (drop (place + 1) bytes)) e in
+      subst (λ (kind : ℕ). Carried n bytes kind counts place l) (sym (h .1)) (carried-kind (h .0) l (h .2))
 
 -- ---- the factors before a place, from the last to the first
 

@@ -1,10 +1,12 @@
 -- What lies behind the walk as the code keeps it: two counts, since the factors themselves stand in the bytes. Read next: Reading.
+use mathlib.Core.Bool.{cond}
 use mathlib.Core.List.{List, [], _∷_, _++_}
 use Prim.Native.Nat.{ℕ, zero, suc, _+_, _-_, _*_, _≤_}
+use lib.Dec.{eqb}
 use lib.ListN.{length, drop}
 use Rattle.gf2.specs.Limits.{maxVariables}
-use Rattle.records.specs.declared.Kind.{Kind}
-use Rattle.records.specs.declared.Kind.the-variants.{Variables, Product, Factor as FactorKind, End, On, Free, Unknown}
+use Rattle.records.specs.declared.Kind.the-variants.{Factor as FactorKind}
+use Rattle.records.specs.Kinds.{productKind, factorKind, bodyLength}
 use Rattle.product.specs.Product.{Factor, AllFit}
 use Rattle.form.specs.declared.Counts.{Counts}
 use Rattle.form.specs.Decoding.{factorOf}
@@ -12,7 +14,7 @@ use Rattle.form.specs.Walk.{Behind, behind}
 
 -- The length of a factor's record, its kind included.
 abbrev pub factorLength : ℕ
-factorLength = 4
+factorLength = 1 + bodyLength FactorKind
 
 -- The factors in a number of records right before a place of the bytes.
 unfoldable pub factorsBefore : ℕ → List ℕ → ℕ → List Factor
@@ -23,15 +25,11 @@ factorsBefore (suc k) bytes place = factorsBefore k bytes (place - factorLength)
 abbrev pub behindBy : List ℕ → Counts → ℕ → Behind
 behindBy bytes counts place = behind (counts .products) (factorsBefore (counts .factors) bytes place)
 
--- The counts once a record is passed too.
-abbrev pub countsAfter : Kind → Counts → Counts
-countsAfter Product counts = record { products = counts .products + 1; factors = 0 }
-countsAfter FactorKind counts = record { products = counts .products; factors = counts .factors + 1 }
-countsAfter End counts = counts
-countsAfter Variables counts = counts
-countsAfter On counts = counts
-countsAfter Free counts = counts
-countsAfter Unknown counts = counts
+-- The counts once a record is passed too, by its kind byte.
+abbrev pub countsAfter : ℕ → Counts → Counts
+countsAfter kind counts =
+    cond (eqb kind productKind) (record { products = counts .products + 1; factors = 0 })
+    (cond (eqb kind factorKind) (record { products = counts .products; factors = counts .factors + 1 }) counts)
 
 -- The counts are those of a walk at the place: the records that they count lie before it, and the factors are of n variables.
 pub record Counted (n : ℕ) (bytes : List ℕ) (counts : Counts) (place : ℕ) : Type 0 where

@@ -1,12 +1,11 @@
 -- The form that the bytes of an accepted input stand for (document 01, "The written form"). Read next: Walk.
+use mathlib.Core.Bool.{cond}
 use mathlib.Core.List.{List, [], _∷_}
 use Prim.Native.Nat.{ℕ, zero, suc}
+use lib.Dec.{eqb}
 use lib.ListN.{getD, drop}
-use Rattle.records.specs.declared.Kind.{Kind}
-use Rattle.records.specs.declared.Kind.the-variants.{Variables, Product, Factor as FactorKind, End, On, Free, Unknown}
-use Rattle.records.specs.declared.Body.{Body}
-use Rattle.records.specs.declared.Body.the-variants.{Length, Unknown as NoLength}
-use Rattle.records.specs.Kinds.{kindOf, bodyOf, wordOf}
+use Rattle.records.specs.declared.Kind.the-variants.{Product, Factor as FactorKind}
+use Rattle.records.specs.Kinds.{productKind, factorKind, bodyLength, wordOf}
 use Rattle.product.specs.Product.{Factor, factor}
 use Rattle.form.specs.Form.{Form}
 
@@ -23,26 +22,21 @@ pub record Parts : Type 0 where
 abbrev pub noParts : Parts
 noParts = record { factors = []; products = [] }
 
--- A record before later ones, given its kind and the bytes after the kind: a product begins with the factors that follow, a factor is one of
+-- A record before later ones, given its kind byte and the bytes after it: a product begins with the factors that follow, a factor is one of
 -- those, and every other kind ends them.
-abbrev pub partsBefore : Kind → List ℕ → Parts → Parts
-partsBefore Product rest later = record { factors = []; products = later .factors ∷ later .products }
-partsBefore FactorKind rest later = record { factors = factorOf rest ∷ later .factors; products = later .products }
-partsBefore Variables rest later = noParts
-partsBefore End rest later = noParts
-partsBefore On rest later = noParts
-partsBefore Free rest later = noParts
-partsBefore Unknown rest later = noParts
+abbrev pub partsBefore : ℕ → List ℕ → Parts → Parts
+partsBefore kind rest later =
+    cond (eqb kind productKind) (record { factors = []; products = later .factors ∷ later .products })
+    (cond (eqb kind factorKind) (record { factors = factorOf rest ∷ later .factors; products = later .products }) noParts)
 
--- The length of a body; 0 where the kind is unknown.
-abbrev pub lengthOf : Body → ℕ
-lengthOf (Length l) = l
-lengthOf NoLength = 0
+-- The length of the body of a factor or of a product, by the kind byte.
+abbrev pub partLength : ℕ → ℕ
+partLength kind = cond (eqb kind factorKind) (bodyLength FactorKind) (bodyLength Product)
 
 -- The parts of the bytes once the given number of bytes of a body is passed.
 unfoldable pub partsFrom : ℕ → List ℕ → Parts
 partsFrom skip [] = noParts
-partsFrom zero (byte ∷ rest) = partsBefore (kindOf byte) rest (partsFrom (lengthOf (bodyOf (kindOf byte))) rest)
+partsFrom zero (kind ∷ rest) = partsBefore kind rest (partsFrom (partLength kind) rest)
 partsFrom (suc skip) (byte ∷ rest) = partsFrom skip rest
 
 -- n is the body of the first record (document 01, "The written form", kind 4E).

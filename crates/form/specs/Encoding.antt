@@ -1,5 +1,5 @@
--- The bytes of a form (document 01, "The written form"). That a list of bytes is accepted exactly if it is one of these is `form-exactly`.
--- Read next: Decoding.
+-- The bytes of a form (document 01, "The written form"). That a list of bytes is accepted exactly if it is that of a valid form is
+-- `form-exactly`. Read next: Decoding.
 use mathlib.Core.List.{List, [], _∷_, _++_}
 use Prim.Native.Nat.{ℕ}
 use lib.ListN.{length}

@@ -1,5 +1,5 @@
 // The written form (document 01, "The written form"): its bytes are walked from the left, valued at a point, read into points and written again.
-// Read next: specs/Walk.antt.
+// Read next: specs/Form.antt.
 ghost use mathlib.Core.Path.{_≡_};
 ghost use mathlib.Core.Bool.{_&&_};
 ghost use mathlib.Core.List.{[]};
@@ -7,15 +7,20 @@ ghost use Prim.Native.Nat.{ℕ, _+_, _≤_, _<_};
 ghost use lib.ListN.{length, getD, drop};
 ghost use Rattle.gf2.specs.Limits.{maxVariables};
 ghost use Rattle.gf2.specs.Finite.{select};
-ghost use Rattle.records.specs.Kinds.{kindOf};
+ghost use Rattle.records.specs.Kinds.{bodyLength};
+ghost use Rattle.records.specs.declared.Kind.the-variants.{Variables, Factor as FactorKind};
 ghost use Rattle.table.specs.Decision.{front};
 ghost use Rattle.product.specs.Product.{agrees, factor, factorAt, fits};
 ghost use Rattle.form.specs.Form.{formAt};
 ghost use Rattle.form.specs.Decoding.{decodeForm, factorOf};
 ghost use Rattle.form.specs.Reading.{IsForm, formFault, pointsAfter, pointsAnswer, rewriteAfter, rewriteAnswer};
-ghost use Rattle.form.specs.Walk.{behind, factorStep, firstFormStep, productStep, formStep, walkFormFrom, walkedForm};
+ghost use Rattle.records.specs.Walks.{bodyStep};
+ghost use Rattle.form.specs.Walk.{behind, variablesStep, firstFormStep, factorStep, productStep, formStep, walkFormFrom, walkedForm};
 ghost use Rattle.form.specs.Counting.{Counted, behindBy, countsAfter, factorLength, factorsBefore};
+use records::FACTOR_KIND;
+use records::Head;
 use records::Kind;
+use records::PRODUCT_KIND;
 use records::Step;
 use records::Walk;
 
@@ -50,18 +55,15 @@ pub struct FormRewrite {
     pub length: usize,
 }
 
-// The first record of a form, which gives n.
-fn first_step(bytes: &[u8]) -> Step
+// n, in a body of the given length.
+fn variables_step(bytes: &[u8], body: usize) -> Step
     requires { ⌜ 0 < length (now bytes) ⌝ }
-    ensures { λ r. ⌜ r ≡ firstFormStep (kindOf (getD (now (bytes .entry)) 0 0)) (drop 1 (now (bytes .entry))) ⌝ }
+    requires { ⌜ body ≡ bodyLength Variables ⌝ }
+    ensures { λ r. ⌜ r ≡ variablesStep (bodyStep body 0 (drop 1 (now (bytes .entry)))) (drop 1 (now (bytes .entry))) ⌝ }
 {
-    let kind = records::kind_of(bytes[0]);
-    let Kind::Variables = kind else {
-        return Step::Stop(Walk::WrongKind(0));
-    };
-    let body = records::body_step(bytes, 0, Kind::Variables);
-    let Step::Whole(length) = body else {
-        return body;
+    let found = records::body_step(bytes, 0, body);
+    let Step::Whole(length) = found else {
+        return found;
     };
     if table::bad_count(bytes[1] as usize) {
         return Step::Stop(Walk::WrongVariables(1));
@@ -69,13 +71,27 @@ fn first_step(bytes: &[u8]) -> Step
     Step::Whole(length)
 }
 
+// The first record of a form, which gives n.
+fn first_step(bytes: &[u8]) -> Step
+    requires { ⌜ 0 < length (now bytes) ⌝ }
+    ensures { λ r. ⌜ r ≡ firstFormStep (getD (now (bytes .entry)) 0 0) (drop 1 (now (bytes .entry))) ⌝ }
+{
+    match records::head_of(bytes[0], 0) {
+        Head::Refused(fault) => Step::Stop(fault),
+        Head::Known(kind, body) => match kind {
+            Kind::Variables => variables_step(bytes, body),
+            _ => Step::Stop(Walk::WrongKind(0)),
+        },
+    }
+}
+
 // A product begins at the place, after a number of others.
-fn product_step(bytes: &[u8], products: usize, place: usize) -> Step
+fn product_step(bytes: &[u8], products: usize, place: usize, body: usize) -> Step
     requires { ⌜ place < length (now bytes) ⌝ }
-    ensures { λ r. ⌜ r ≡ productStep products place (drop (place + 1) (now (bytes .entry))) ⌝ }
+    ensures { λ r. ⌜ r ≡ productStep products body place (drop (place + 1) (now (bytes .entry))) ⌝ }
 {
     if products < MAX_PRODUCTS {
-        records::body_step(bytes, place, Kind::Product)
+        records::body_step(bytes, place, body)
     } else {
         Step::Stop(Walk::TooMany(place))
     }
@@ -122,9 +138,10 @@ fn agrees_before(bytes: &[u8], n: usize, counts: Counts, place: usize, mask: u16
 }
 
 // The factor at the place: constant and mask first, then that it agrees with those before it in its product.
-fn factor_step(bytes: &[u8], n: usize, counts: Counts, place: usize) -> Step
+fn factor_step(bytes: &[u8], n: usize, counts: Counts, place: usize, body: usize) -> Step
     requires { ⌜ Counted n (now bytes) counts place ⌝ }
     requires { ⌜ place < length (now bytes) ⌝ }
+    requires { ⌜ body ≡ bodyLength FactorKind ⌝ }
     ensures { λ r.
         ⌜
         r
@@ -132,6 +149,7 @@ fn factor_step(bytes: &[u8], n: usize, counts: Counts, place: usize) -> Step
         n
         (counts .products)
         (factorsBefore (counts .factors) (now (bytes .entry)) place)
+        body
         place
         (drop (place + 1) (now (bytes .entry)))
         ⌝ }
@@ -139,9 +157,9 @@ fn factor_step(bytes: &[u8], n: usize, counts: Counts, place: usize) -> Step
     if counts.products == 0 {
         return Step::Stop(Walk::WrongKind(place));
     }
-    let body = records::body_step(bytes, place, Kind::Factor);
-    let Step::Whole(length) = body else {
-        return body;
+    let found = records::body_step(bytes, place, body);
+    let Step::Whole(length) = found else {
+        return found;
     };
     let mask = mask_at(bytes, place);
     if !fits(n, bytes[place + 1], mask) {
@@ -163,16 +181,19 @@ fn record_step(bytes: &[u8], n: usize, counts: Counts, place: usize) -> Step
         ≡ formStep
         n
         (behindBy (now (bytes .entry)) counts place)
-        (kindOf (getD (now (bytes .entry)) place 0))
+        (getD (now (bytes .entry)) place 0)
         place
         (drop (place + 1) (now (bytes .entry)))
         ⌝ }
 {
-    match records::kind_of(bytes[place]) {
-        Kind::Product => product_step(bytes, counts.products, place),
-        Kind::Factor => factor_step(bytes, n, counts, place),
-        Kind::End => records::end_step(bytes, counts.products, place),
-        _ => Step::Stop(Walk::WrongKind(place)),
+    match records::head_of(bytes[place], place) {
+        Head::Refused(fault) => Step::Stop(fault),
+        Head::Known(kind, body) => match kind {
+            Kind::Product => product_step(bytes, counts.products, place, body),
+            Kind::Factor => factor_step(bytes, n, counts, place, body),
+            Kind::End => records::end_step(bytes, counts.products, place, body),
+            _ => Step::Stop(Walk::WrongKind(place)),
+        },
     }
 }
 
@@ -180,14 +201,15 @@ fn record_step(bytes: &[u8], n: usize, counts: Counts, place: usize) -> Step
 fn counts_after(bytes: &[u8], n: usize, counts: Counts, place: usize) -> Counts
     requires { ⌜ Counted n (now bytes) counts place ⌝ }
     requires { ⌜ place < length (now bytes) ⌝ }
-    ensures { λ r. ⌜ r ≡ countsAfter (kindOf (getD (now (bytes .entry)) place 0)) counts ⌝ }
+    ensures { λ r. ⌜ r ≡ countsAfter (getD (now (bytes .entry)) place 0) counts ⌝ }
 {
-    match records::kind_of(bytes[place]) {
-        Kind::Product => Counts {
+    let kind = bytes[place];
+    match kind {
+        PRODUCT_KIND => Counts {
             products: counts.products + 1,
             factors: 0,
         },
-        Kind::Factor => Counts {
+        FACTOR_KIND => Counts {
             products: counts.products,
             factors: counts.factors + 1,
         },
@@ -258,8 +280,9 @@ pub fn form_at(bytes: &[u8], point: u16) -> bool
     let mut place = FIRST_PRODUCT;
     let mut holds = false;
     loop {
-        match records::kind_of(bytes[place]) {
-            Kind::Product => {
+        let kind = bytes[place];
+        match kind {
+            PRODUCT_KIND => {
                 if holds {
                     return true;
                 }
@@ -267,7 +290,7 @@ pub fn form_at(bytes: &[u8], point: u16) -> bool
                 place += PRODUCT_LENGTH;
                 continue;
             }
-            Kind::Factor => {
+            FACTOR_KIND => {
                 holds = still_holds(bytes, place, holds, point);
                 place += FACTOR_LENGTH;
                 continue;

@@ -1,4 +1,5 @@
--- Laws of specs.Kinds: the byte of each known kind, and that a number of two bytes and its bytes give each other. Read next: Whole.
+-- Laws of specs.Kinds: what the decision over the kind byte says of that byte, and that a number of two bytes and its bytes give each other.
+-- Read next: Whole.
 use mathlib.Core.Path.{_≡_, refl, subst}
 use mathlib.Core.Bool.{Bool, true, false, cond}
 use Prim.Native.Nat.{ℕ, _<_}
@@ -6,35 +7,60 @@ use native.Mathlib.Omega.{arith}
 use lib.Dec.{eqb}
 use borrow.Author.Tests.{eqb-true}
 use Rattle.records.specs.declared.Kind.{Kind}
-use Rattle.records.specs.declared.Kind.the-variants.{Variables, Product, Factor, End, On, Free, Unknown}
-use Rattle.records.specs.Kinds.{variablesKind, productKind, factorKind, endKind, onKind, freeKind, kindOf, wordOf, lowByte, highByte}
+use Rattle.records.specs.declared.Kind.the-variants.{Variables, Product, Factor, End, On, Free}
+use Rattle.records.specs.declared.Walk.the-variants.{WrongKind}
+use Rattle.records.specs.declared.Head.{Head}
+use Rattle.records.specs.declared.Head.the-variants.{Known, Refused}
+use Rattle.records.specs.Kinds.{variablesKind, productKind, factorKind, endKind, onKind, freeKind, bodyLength, known, headOf, wordOf, lowByte, highByte}
 
--- The byte is the one that stands for the kind; nothing is said of an unknown kind.
-abbrev pub StandsFor : Kind → ℕ → Type 0
-StandsFor Variables byte = byte ≡ variablesKind
-StandsFor Product byte = byte ≡ productKind
-StandsFor Factor byte = byte ≡ factorKind
-StandsFor End byte = byte ≡ endKind
-StandsFor On byte = byte ≡ onKind
-StandsFor Free byte = byte ≡ freeKind
-StandsFor Unknown byte = Unit {0}
+-- The byte of a kind.
+abbrev pub kindByte : Kind → ℕ
+kindByte Variables = variablesKind
+kindByte Product = productKind
+kindByte Factor = factorKind
+kindByte End = endKind
+kindByte On = onKind
+kindByte Free = freeKind
 
--- Each known kind has one byte.
-stands : (byte : ℕ) → StandsFor (kindOf byte) byte
-unfolding kindOf
-stands byte =
+-- That byte is decided as that kind, wherever it stands.
+pub head-byte : (kind : Kind) (place : ℕ) → headOf (kindByte kind) place ≡ known kind
+unfolding headOf
+head-byte Variables place = refl
+head-byte Product place = refl
+head-byte Factor place = refl
+head-byte End place = refl
+head-byte On place = refl
+head-byte Free place = refl
+
+-- What is decided: a kind that has this byte, with the length of its body, or that the kind at the place is wrong.
+abbrev Decided : ℕ → ℕ → Head → Type 0
+Decided byte place (Known kind l) = (byte ≡ kindByte kind) × (l ≡ bodyLength kind)
+Decided byte place (Refused fault) = fault ≡ WrongKind place
+
+decided : (byte place : ℕ) → Decided byte place (headOf byte place)
+unfolding headOf
+decided byte place =
     tested (eqb byte variablesKind) Variables _ (eqb-true byte variablesKind)
     (tested (eqb byte productKind) Product _ (eqb-true byte productKind)
     (tested (eqb byte factorKind) Factor _ (eqb-true byte factorKind)
     (tested (eqb byte endKind) End _ (eqb-true byte endKind)
-    (tested (eqb byte onKind) On _ (eqb-true byte onKind) (tested (eqb byte freeKind) Free Unknown (eqb-true byte freeKind) tt)))))
+    (tested (eqb byte onKind) On _ (eqb-true byte onKind)
+    (tested (eqb byte freeKind) Free _ (eqb-true byte freeKind) refl)))))
   where
-    tested : (t : Bool) (k l : Kind) → (t ≡ true → StandsFor k byte) → StandsFor l byte → StandsFor (cond t k l) byte
-    tested true k l p q = p refl
-    tested false k l p q = q
+    tested : (t : Bool) (kind : Kind) (other : Head) → (t ≡ true → byte ≡ kindByte kind) → Decided byte place other → Decided byte place (cond t (known kind) other)
+    tested true kind other p q = (p refl, refl)
+    tested false kind other p q = q
 
-pub kind-byte : (byte : ℕ) {k : Kind} → kindOf byte ≡ k → StandsFor k byte
-kind-byte byte e = subst (λ (k : Kind). StandsFor k byte) e (stands byte)
+pub head-known : (byte place : ℕ) {kind : Kind} {l : ℕ} → headOf byte place ≡ Known kind l → (byte ≡ kindByte kind) × (l ≡ bodyLength kind)
+head-known byte place e = subst (Decided byte place) e (decided byte place)
+
+-- Whatever holds of each known kind that has the byte, and of the refusal, holds of the decision.
+pub head-cases : (Q : Head → Type 0) (byte place : ℕ) → ((kind : Kind) → byte ≡ kindByte kind → Q (known kind)) → Q (Refused (WrongKind place)) → Q (headOf byte place)
+head-cases Q byte place f g = go (headOf byte place) (decided byte place)
+  where
+    go : (h : Head) → Decided byte place h → Q h
+    go (Known kind l) d = rw (d .1) (f kind (d .0))
+    go (Refused fault) d = rw d g
 
 -- The two bytes of a number give it back, and two bytes are those of their number.
 pub word-of-bytes : (word : ℕ) → wordOf (lowByte word) (highByte word) ≡ word

@@ -1,3 +1,4 @@
 -- Laws about the definitions in specs/; read in this order.
 pub mod KindBytes
 pub mod Whole
+pub mod Walking

@@ -6,9 +6,10 @@ use Prim.Native.Nat.{ℕ, _+_, _*_, _/_, _%_, _<_}
 use lib.Dec.{eqb}
 use Rattle.gf2.specs.Finite.{Mem}
 use Rattle.records.specs.declared.Kind.{Kind}
-use Rattle.records.specs.declared.Kind.the-variants.{Variables, Product, Factor, End, On, Free, Unknown}
-use Rattle.records.specs.declared.Body.{Body}
-use Rattle.records.specs.declared.Body.the-variants.{Length, Unknown as NoLength}
+use Rattle.records.specs.declared.Kind.the-variants.{Variables, Product, Factor, End, On, Free}
+use Rattle.records.specs.declared.Walk.the-variants.{WrongKind}
+use Rattle.records.specs.declared.Head.{Head}
+use Rattle.records.specs.declared.Head.the-variants.{Known, Refused}
 
 -- The kind bytes: n, a product begins, a factor, the end with its number, an on point, a free point (document 01, "The written form").
 abbrev pub variablesKind : ℕ
@@ -29,25 +30,30 @@ onKind = 0x4F
 abbrev pub freeKind : ℕ
 freeKind = 0x44
 
--- The kind that a byte stands for; every other byte is an unknown kind.
-unfoldable pub kindOf : ℕ → Kind
-kindOf byte =
-    cond (eqb byte variablesKind) Variables
-    (cond (eqb byte productKind) Product
-    (cond (eqb byte factorKind) Factor
-    (cond (eqb byte endKind) End
-    (cond (eqb byte onKind) On
-    (cond (eqb byte freeKind) Free Unknown)))))
-
 -- The length of the body that a kind fixes.
-abbrev pub bodyOf : Kind → Body
-bodyOf Variables = Length 1
-bodyOf Product = Length 0
-bodyOf Factor = Length 3
-bodyOf End = Length 2
-bodyOf On = Length 2
-bodyOf Free = Length 2
-bodyOf Unknown = NoLength
+abbrev pub bodyLength : Kind → ℕ
+bodyLength Variables = 1
+bodyLength Product = 0
+bodyLength Factor = 3
+bodyLength End = 2
+bodyLength On = 2
+bodyLength Free = 2
+
+-- A known kind with the length of its body.
+abbrev pub known : Kind → Head
+known kind = Known kind (bodyLength kind)
+
+-- The decision over the kind byte, which stands at the place: it gives the kind with the length of its body, or the refusal of an unknown
+-- kind (document 01, "Forms and where they belong"). What a table or a form makes of a known kind is decided after it.
+unfoldable pub headOf : ℕ → ℕ → Head
+headOf byte place =
+    cond (eqb byte variablesKind) (known Variables)
+    (cond (eqb byte productKind) (known Product)
+    (cond (eqb byte factorKind) (known Factor)
+    (cond (eqb byte endKind) (known End)
+    (cond (eqb byte onKind) (known On)
+    (cond (eqb byte freeKind) (known Free)
+    (Refused (WrongKind place)))))))
 
 -- The number that two bytes stand for: wider numbers are low byte first (document 01, "The written form").
 abbrev pub wordOf : ℕ → ℕ → ℕ
@@ -68,9 +74,9 @@ Bytes bytes = (byte : ℕ) → Mem byte bytes → byte < 256
 abbrev pub encodeRecord : ℕ → ℕ → List ℕ
 encodeRecord kind word = kind ∷ lowByte word ∷ highByte word ∷ []
 
--- Its length: one byte of kind, two of the number.
+-- Its length: one byte of kind, and the body of a point or of the end.
 abbrev pub wordRecordLength : ℕ
-wordRecordLength = 3
+wordRecordLength = 1 + bodyLength End
 
 -- The end record with the number of points of a table, or of products of a form.
 abbrev pub encodeEnd : ℕ → List ℕ

@@ -1,4 +1,5 @@
--- The written form's records: the one place for the kinds, the lengths of bodies and numbers of two bytes, and for what the walks over
--- tables and forms share (document 01, "The written form"). Read in this order.
+-- The written form's records (document 01, "The written form"): the kinds, the decision over the kind byte, the length of the body that each
+-- kind fixes, from which the lengths of records are reckoned (`wordRecordLength` here, `factorLength` in crate `form`), numbers of two bytes, and
+-- what the walks over tables and forms share. What the bytes of a factor's body say is in crate `form`. Read in this order.
 pub mod Kinds
 pub mod Walks

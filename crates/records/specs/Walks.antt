@@ -1,25 +1,30 @@
--- What the walks over the bytes of tables and forms share: the body of a record, the end record, and the refusal of what a walk finds
--- (document 01, "The written form"; the faults and their places are those of document 02, No. 3).
+-- What the walks over the bytes of tables and forms share: the body of a record, the end record, the walk from record to record, and the
+-- refusal of what it finds (document 01, "The written form"; the faults and their places are those of document 02, No. 3).
 -- Read next: crate `stored`, which walks over a stored table, and crate `form`.
 use mathlib.Core.Bool.{Bool, true, false, cond}
 use mathlib.Core.List.{List, [], _∷_}
-use Prim.Native.Nat.{ℕ, _+_}
+use Prim.Native.Nat.{ℕ, zero, suc, _+_}
 use lib.Dec.{eqb, leb}
 use lib.ListN.{length, getD, drop}
 use Rattle.table.specs.Refusal.{Test, test, firstFault, layoutFault}
-use Rattle.records.specs.declared.Body.{Body}
-use Rattle.records.specs.declared.Body.the-variants.{Length, Unknown as NoLength}
+use Rattle.records.specs.declared.Kind.{Kind}
+use Rattle.records.specs.declared.Head.{Head}
+use Rattle.records.specs.declared.Head.the-variants.{Known, Refused}
 use Rattle.records.specs.declared.Walk.{Walk}
 use Rattle.records.specs.declared.Walk.the-variants.{Laid, WrongKind, Missing, WrongVariables, WrongFactor, NotCanonical, WrongCount, After, TooMany}
 use Rattle.records.specs.declared.Step.{Step}
 use Rattle.records.specs.declared.Step.the-variants.{Whole, Stop}
 use Rattle.records.specs.Kinds.{wordOf}
 
--- The body of the record whose kind stands at the place, before the bytes that follow that kind: it is judged only when all of it is there,
--- and a cut one is missing bytes at the length of the input (document 02, No. 3).
-abbrev pub bodyStep : Body → ℕ → List ℕ → Step
-bodyStep (Length l) place rest = cond (leb l (length rest)) (Whole l) (Stop (Missing (place + 1 + length rest)))
-bodyStep NoLength place rest = Stop (WrongKind place)
+-- A record by the decision over its kind byte: an unknown kind is refused, and a known one judged with the length of its body.
+abbrev pub headStep : Head → (Kind → ℕ → Step) → Step
+headStep (Known kind l) judge = judge kind l
+headStep (Refused fault) judge = Stop fault
+
+-- The body of the record whose kind stands at the place, of the given length, before the bytes that follow that kind: it is judged only when
+-- all of it is there, and a cut one is missing bytes at the length of the input (document 02, No. 3).
+abbrev pub bodyStep : ℕ → ℕ → List ℕ → Step
+bodyStep l place rest = cond (leb l (length rest)) (Whole l) (Stop (Missing (place + 1 + length rest)))
 
 -- After the end record nothing may stand.
 abbrev pub afterEnd : ℕ → ℕ → List ℕ → Walk
@@ -37,6 +42,19 @@ endStep (Whole l) count place rest =
 abbrev pub goOn : Step → (ℕ → Walk) → Walk
 goOn (Whole l) next = next l
 goOn (Stop end) next = end
+
+-- The walk over the bytes from a place on, record by record, once the given number of bytes of a body is passed. It goes by what lies behind
+-- the place: `step` judges the record there, given its kind byte, its place and the bytes after that byte; `next` says what lies behind once
+-- it is passed, given its kind byte and the bytes after it; and `ending` is what is found where no byte is left.
+module _ {S : Type 0} (step : S → ℕ → ℕ → List ℕ → Step) (next : S → ℕ → List ℕ → S) (ending : S → ℕ → Walk) where
+  unfoldable pub walkBy : ℕ → S → ℕ → List ℕ → Walk
+  walkBy skip behind place [] = ending behind place
+  walkBy zero behind place (byte ∷ rest) = goOn (step behind byte place rest) (λ l. walkBy l (next behind byte rest) (place + 1) rest)
+  walkBy (suc skip) behind place (byte ∷ rest) = walkBy skip behind (place + 1) rest
+
+-- A table or a form whose bytes end before its end record misses bytes there, whatever lies behind.
+abbrev pub bytesMissing : {S : Type 0} → S → ℕ → Walk
+bytesMissing behind place = Missing place
 
 -- A walk met a fault.
 abbrev pub isFault : Walk → Bool

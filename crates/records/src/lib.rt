@@ -5,7 +5,8 @@ ghost use mathlib.Core.List.{[], _∷_};
 ghost use Prim.Native.Nat.{_+_, _≤_, _<_};
 ghost use lib.ListN.{length, drop};
 ghost use lib.Seq.{sets};
-ghost use Rattle.records.specs.Kinds.{kindOf, bodyOf, wordOf, lowByte, highByte, encodeRecord, wordRecordLength, encodeEnd};
+ghost use Rattle.records.specs.Kinds.{bodyLength, headOf, wordOf, lowByte, highByte, encodeRecord, wordRecordLength, encodeEnd};
+ghost use Rattle.records.specs.declared.Kind.the-variants.{End};
 ghost use Rattle.records.specs.Walks.{bodyStep, endStep, layoutOf};
 
 // The kind bytes, as the constants of the same names in specs/.
@@ -24,7 +25,7 @@ pub const FREE_KIND: u8 = 0x44;
 // The length of a record of a kind and a number of two bytes, as `wordRecordLength` in specs/.
 pub const WORD_RECORD_LENGTH: usize = 3;
 
-// What a record is, by its first byte.
+// What a record is.
 pub enum Kind {
     Variables,
     Product,
@@ -32,42 +33,40 @@ pub enum Kind {
     End,
     On,
     Free,
-    Unknown,
 }
 
-// How long a body is, where the kind is known.
-pub enum Body {
-    Length(usize),
-    Unknown,
+// What a walk over the bytes of a table or a form finds: what is asked for, with its number of points or products, or the first fault from
+// the left with its place (document 02, No. 3).
+pub enum Walk {
+    Laid(usize),
+    WrongKind(usize),
+    Missing(usize),
+    WrongVariables(usize),
+    WrongFactor(usize),
+    NotCanonical(usize),
+    WrongCount(usize),
+    After(usize),
+    TooMany(usize),
 }
 
-// The kind that a byte stands for.
-pub fn kind_of(byte: u8) -> Kind
-    ensures { λ r. ⌜ r ≡ kindOf byte ⌝ }
+// What the kind byte of a record decides: its kind with the length of its body, or the refusal of an unknown kind.
+pub enum Head {
+    Known(Kind, usize),
+    Refused(Walk),
+}
+
+// The decision over the kind byte, which stands at the place. No other function refuses an unknown kind.
+pub fn head_of(byte: u8, place: usize) -> Head
+    ensures { λ r. ⌜ r ≡ headOf byte place ⌝ }
 {
     match byte {
-        VARIABLES_KIND => Kind::Variables,
-        PRODUCT_KIND => Kind::Product,
-        FACTOR_KIND => Kind::Factor,
-        END_KIND => Kind::End,
-        ON_KIND => Kind::On,
-        FREE_KIND => Kind::Free,
-        _ => Kind::Unknown,
-    }
-}
-
-// The length of a body, which its kind fixes.
-pub fn body_of(kind: Kind) -> Body
-    ensures { λ r. ⌜ r ≡ bodyOf kind ⌝ }
-{
-    match kind {
-        Kind::Variables => Body::Length(1),
-        Kind::Product => Body::Length(0),
-        Kind::Factor => Body::Length(3),
-        Kind::End => Body::Length(2),
-        Kind::On => Body::Length(2),
-        Kind::Free => Body::Length(2),
-        Kind::Unknown => Body::Unknown,
+        VARIABLES_KIND => Head::Known(Kind::Variables, 1),
+        PRODUCT_KIND => Head::Known(Kind::Product, 0),
+        FACTOR_KIND => Head::Known(Kind::Factor, 3),
+        END_KIND => Head::Known(Kind::End, 2),
+        ON_KIND => Head::Known(Kind::On, 2),
+        FREE_KIND => Head::Known(Kind::Free, 2),
+        _ => Head::Refused(Walk::WrongKind(place)),
     }
 }
 
@@ -104,57 +103,41 @@ pub fn put_end(room: &mut [u8], at: usize, count: u16)
     put_record(&mut *room, at, END_KIND, count);
 }
 
-// What a walk over the bytes of a table or a form finds: what is asked for, with its number of points or products, or the first fault from
-// the left with its place (document 02, No. 3).
-pub enum Walk {
-    Laid(usize),
-    WrongKind(usize),
-    Missing(usize),
-    WrongVariables(usize),
-    WrongFactor(usize),
-    NotCanonical(usize),
-    WrongCount(usize),
-    After(usize),
-    TooMany(usize),
-}
-
 // What a walk finds at one record: a whole one, with the length of its body, or how the walk ends.
 pub enum Step {
     Whole(usize),
     Stop(Walk),
 }
 
-// The body of the record at the place.
-pub fn body_step(bytes: &[u8], place: usize, kind: Kind) -> Step
+// The body of the record at the place, of the given length.
+pub fn body_step(bytes: &[u8], place: usize, body: usize) -> Step
     requires { ⌜ place < length (now bytes) ⌝ }
-    ensures { λ r. ⌜ r ≡ bodyStep (bodyOf kind) place (drop (place + 1) (now (bytes .entry))) ⌝ }
+    ensures { λ r. ⌜ r ≡ bodyStep body place (drop (place + 1) (now (bytes .entry))) ⌝ }
 {
-    let Body::Length(length) = body_of(kind) else {
-        return Step::Stop(Walk::WrongKind(place));
-    };
-    if length < bytes.len() - place {
-        Step::Whole(length)
+    if body < bytes.len() - place {
+        Step::Whole(body)
     } else {
         Step::Stop(Walk::Missing(bytes.len()))
     }
 }
 
-// The end record at the place: the number of points or products before it, and nothing after.
-pub fn end_step(bytes: &[u8], count: usize, place: usize) -> Step
+// The end record at the place, with a body of the given length: the number of points or products before it, and nothing after.
+pub fn end_step(bytes: &[u8], count: usize, place: usize, body: usize) -> Step
     requires { ⌜ place < length (now bytes) ⌝ }
+    requires { ⌜ body ≡ bodyLength End ⌝ }
     ensures { λ r.
         ⌜
         r
         ≡ endStep
-        (bodyStep (bodyOf Kind.End) place (drop (place + 1) (now (bytes .entry))))
+        (bodyStep body place (drop (place + 1) (now (bytes .entry))))
         count
         place
         (drop (place + 1) (now (bytes .entry)))
         ⌝ }
 {
-    let body = body_step(bytes, place, Kind::End);
-    let Step::Whole(length) = body else {
-        return body;
+    let found = body_step(bytes, place, body);
+    let Step::Whole(length) = found else {
+        return found;
     };
     let next = place + 1 + length;
     if word(bytes[place + 1], bytes[place + 2]) as usize != count {

@@ -8,8 +8,9 @@ use Rattle.gf2.specs.Parity.{oddIn, odd}
 use Rattle.gf2.specs.Basis.{reduce, clear, reduces, irreducible, reducedBasis, isLead, placesAt}
 use Rattle.table.specs.Refusal.{firstFault}
 use Rattle.table.specs.Table.{badCount, outside, notAbove, unordered}
-use Rattle.records.specs.Kinds.{kindOf}
-use Rattle.stored.specs.Layout.{walkTableFrom, walked}
+use Rattle.records.specs.Kinds.{headOf}
+use Rattle.records.specs.Walks.{walkBy}
+use Rattle.stored.specs.Layout.{walked}
 use Rattle.stored.specs.Marks.{recordMarks, markedPoints}
 use Rattle.space.specs.Closure.{closed, linearSpace, degree}
 use Rattle.space.specs.Completion.{allOn, completed}
@@ -99,5 +100,5 @@ examples =
     []
 
 reports : map (λ e. reportText (e .table)) examples ≡ map (λ e. e .text) examples
-unfolding examples example flatMap bit halvings lead holds all select oddIn odd reduce clear reduces irreducible reducedBasis isLead placesAt firstFault badCount outside notAbove unordered kindOf walkTableFrom walked recordMarks markedPoints closed linearSpace degree allOn completed equation equations number project clean restriction keep spans pointsOf bases candidatesOf candidatesFrom candidates everyPoint somePoint cannotGrow isPrime placeFactor canonicalProduct substituteMask substituteFactor substituteProduct primesOf covered firstHolding takenFor takenThrough chosen writtenProduct formOf writtenForm formSizeFault decimalIn decimal spaced names numberLine countsLine numbersLine variablesText equationLine equationLines factorText productLine productLines spaceText formText tableText reportText
+unfolding examples example flatMap bit halvings lead holds all select oddIn odd reduce clear reduces irreducible reducedBasis isLead placesAt firstFault badCount outside notAbove unordered headOf walkBy walked recordMarks markedPoints closed linearSpace degree allOn completed equation equations number project clean restriction keep spans pointsOf bases candidatesOf candidatesFrom candidates everyPoint somePoint cannotGrow isPrime placeFactor canonicalProduct substituteMask substituteFactor substituteProduct primesOf covered firstHolding takenFor takenThrough chosen writtenProduct formOf writtenForm formSizeFault decimalIn decimal spaced names numberLine countsLine numbersLine variablesText equationLine equationLines factorText productLine productLines spaceText formText tableText reportText
 reports = refl

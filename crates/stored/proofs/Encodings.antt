@@ -9,38 +9,28 @@ use native.Mathlib.Omega.{arith}
 use lib.ListN.{length}
 use Rattle.gf2.specs.Finite.{Mem}
 use Rattle.table.specs.Flags.{maxPoints}
-use Rattle.records.specs.declared.Kind.the-variants.{End}
-use Rattle.records.specs.Kinds.{variablesKind, endKind, kindOf, wordOf, lowByte, highByte, Bytes, encodeEnd}
-use Rattle.records.proofs.KindBytes.{kind-byte, word-of-bytes, low-of-word, high-of-word}
+use Rattle.records.specs.Kinds.{endKind, wordOf, lowByte, highByte, Bytes, encodeEnd}
+use Rattle.records.proofs.KindBytes.{word-of-bytes, low-of-word, high-of-word}
 use Rattle.records.specs.declared.Walk.the-variants.{Laid}
 use Rattle.records.specs.Walks.{isFault}
 use Rattle.stored.specs.Layout.{walked, longestTable}
 use Rattle.stored.specs.Marks.{Mark, recordMarks, marks, storedVariables}
 use Rattle.stored.specs.Encoding.{markKind, encodeMarks, encodeTable, Encoded}
 use Rattle.stored.specs.Stored.{LaidOut}
-use Rattle.stored.proofs.Laying.{pointKind, Laying, end, point, LaidAs, table, walk-laid, laid-few, laid-marks, laid-as, marks-point, marks-end}
+use Rattle.stored.proofs.Laying.{Laying, end, point, LaidAs, table, walk-laid, laid-few, laid-marks, laid-as, marks-point, marks-end}
 
 -- ---- what is written is read
-
-mark-kind : (isOn : Bool) → kindOf (markKind isOn) ≡ pointKind isOn
-unfolding kindOf
-mark-kind true = refl
-mark-kind false = refl
-
-end-kind : kindOf endKind ≡ End
-unfolding kindOf
-end-kind = refl
 
 encoded-laying : (ms : List Mark) (place count all : ℕ) → count + length ms ≡ all → place + 3 * length ms < longestTable → Laying (encodeMarks ms ++ encodeEnd all) place count all
 unfolding encodeMarks
 encoded-laying [] place count all e h =
     let same : all ≡ count = omega arith in
-    end (λ (p : place ≡ longestTable). omega arith) end-kind (word-of-bytes all ∙ same) (sym same)
+    end (λ (p : place ≡ longestTable). omega arith) refl (word-of-bytes all ∙ same) (sym same)
 encoded-laying (m ∷ ms) place count all e h =
-    point (m .isOn) (λ (p : place ≡ longestTable). omega arith) (mark-kind (m .isOn)) (encoded-laying ms (place + 3) (count + 1) all (omega arith) (omega arith))
+    point (m .isOn) (λ (p : place ≡ longestTable). omega arith) refl (encoded-laying ms (place + 3) (count + 1) all (omega arith) (omega arith))
 
 encoded-as : (n : ℕ) (ms : List Mark) → length ms ≤ maxPoints → LaidAs (encodeTable n ms) (length ms)
-unfolding encodeTable kindOf
+unfolding encodeTable
 encoded-as n ms h = table refl (encoded-laying ms 2 0 (length ms) (omega arith) (omega arith))
 
 -- The walk accepts an encoding, and n and the marks are read back.
@@ -53,9 +43,9 @@ encoded-variables n ms = refl
 
 read-marks : (ms : List Mark) (all : ℕ) → recordMarks (encodeMarks ms ++ encodeEnd all) ≡ ms
 unfolding encodeMarks
-read-marks [] all = marks-end endKind (lowByte all) (highByte all) end-kind
+read-marks [] all = marks-end endKind (lowByte all) (highByte all) refl
 read-marks (m ∷ ms) all =
-    marks-point (markKind (m .isOn)) (lowByte (m .point)) (highByte (m .point)) (encodeMarks ms ++ encodeEnd all) (m .isOn) (mark-kind (m .isOn))
+    marks-point (markKind (m .isOn)) (lowByte (m .point)) (highByte (m .point)) (encodeMarks ms ++ encodeEnd all) (m .isOn) refl
     ∙ (rw (word-of-bytes (m .point), read-marks ms all))
 
 pub encoded-marks : (n : ℕ) (ms : List Mark) → marks (encodeTable n ms) ≡ ms
@@ -64,19 +54,13 @@ encoded-marks n ms = read-marks ms (length ms)
 
 -- ---- what is read was written
 
-point-byte : (byte : ℕ) (isOn : Bool) → kindOf byte ≡ pointKind isOn → byte ≡ markKind isOn
-point-byte byte true q = kind-byte byte q
-point-byte byte false q = kind-byte byte q
-
 laying-encoded : {rest : List ℕ} {place count all : ℕ} → Bytes rest → Laying rest place count all → rest ≡ encodeMarks (recordMarks rest) ++ encodeEnd all
 unfolding encodeMarks
 laying-encoded {all = all} b (end {byte} {low} {high} o q w a) =
-    let first : byte ≡ endKind = kind-byte byte q in
     let second : low ≡ lowByte all = sym (low-of-word low high (b low (inr (inl refl)))) ∙ ap lowByte (w ∙ a) in
     let third : high ≡ highByte all = sym (high-of-word low high (b low (inr (inl refl)))) ∙ ap highByte (w ∙ a) in
     rw (marks-end byte low high q) (cc)
 laying-encoded {all = all} b (point {byte} {low} {high} {rest} isOn o q r) =
-    let first = point-byte byte isOn q in
     let second : low ≡ lowByte (wordOf low high) = sym (low-of-word low high (b low (inr (inl refl)))) in
     let third : high ≡ highByte (wordOf low high) = sym (high-of-word low high (b low (inr (inl refl)))) in
     let others = laying-encoded (λ x m. b x (inr (inr (inr m)))) r in
@@ -95,7 +79,6 @@ laying-words b (point {byte} {low} {high} {rest} isOn o q r) m k =
 as-encoded : {bytes : List ℕ} {all : ℕ} → Bytes bytes → LaidAs bytes all → bytes ≡ encodeTable (storedVariables bytes) (marks bytes)
 unfolding encodeTable
 as-encoded b (table {byte} {n} {rest} {all} q r) =
-    let first : byte ≡ variablesKind = kind-byte byte q in
     let number : length (recordMarks rest) ≡ all = laid-marks (table {n = n} q r) in
     let others = laying-encoded (λ x m. b x (inr (inr m))) r in
     rw number (cc)
@@ -115,7 +98,7 @@ encoded-bytes (m ∷ ms) rest w b x (inr (inl e)) = omega arith
 encoded-bytes (m ∷ ms) rest w b x (inr (inr (inl e))) = omega (arith, w m (inl refl))
 encoded-bytes (m ∷ ms) rest w b x (inr (inr (inr k))) = encoded-bytes ms rest (λ y i. w y (inr i)) b x k
 
-table-bytes : (n : ℕ) (ms : List Mark) → n < 256 → ((m : Mark) → Mem m ms → m .point < 65536) → length ms ≤ maxPoints → Bytes (encodeTable n ms)
+pub table-bytes : (n : ℕ) (ms : List Mark) → n < 256 → ((m : Mark) → Mem m ms → m .point < 65536) → length ms ≤ maxPoints → Bytes (encodeTable n ms)
 unfolding encodeTable
 table-bytes n ms h w few x (inl e) = omega arith
 table-bytes n ms h w few x (inr (inl e)) = omega arith
@@ -126,6 +109,10 @@ table-bytes n ms h w few x (inr (inr k)) = encoded-bytes ms (encodeEnd (length m
     last y (inr (inl e)) = omega arith
     last y (inr (inr (inl e))) = omega arith
     last y (inr (inr (inr e))) = absurd e
+
+-- Bytes that are laid out as a table are the encoding of what is read of them.
+pub stored-same : (bytes : List ℕ) → Bytes bytes → LaidOut bytes → bytes ≡ encodeTable (storedVariables bytes) (marks bytes)
+stored-same bytes b h = as-encoded b (laid-as bytes h)
 
 -- A list of bytes is laid out as a table exactly if it is the encoding of one.
 pub laid-exactly : (bytes : List ℕ) → (Bytes bytes × LaidOut bytes) ↔ Encoded bytes
@@ -138,7 +125,7 @@ laid-exactly bytes = (
         one-byte = as-words (h .0) a .0;
         two-bytes = as-words (h .0) a .1;
         few = laid-few a;
-        same = as-encoded (h .0) a;
+        same = stored-same bytes (h .0) (h .1);
       },
   λ e. subst (λ (l : List ℕ). Bytes l × LaidOut l) (sym (e .same)) (table-bytes (e .variables) (e .listed) (e .one-byte) (e .two-bytes) (e .few), ap isFault (encoded-laid (e .variables) (e .listed) (e .few))),
 )

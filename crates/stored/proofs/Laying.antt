@@ -14,56 +14,51 @@ use lib.Seq.{getD-drop}
 use Rattle.gf2.proofs.Logic.{clash}
 use Rattle.table.specs.Flags.{maxPoints}
 use Rattle.records.specs.declared.Kind.{Kind}
-use Rattle.records.specs.declared.Kind.the-variants.{Variables, Product, Factor, End, On, Free, Unknown}
-use Rattle.records.specs.declared.Body.the-variants.{Length}
-use Rattle.records.specs.Kinds.{kindOf, wordOf, onKind, wordRecordLength}
-use Rattle.records.proofs.KindBytes.{kind-byte}
+use Rattle.records.specs.declared.Kind.the-variants.{Variables, Product, Factor, End, On, Free}
+use Rattle.records.specs.Kinds.{variablesKind, endKind, onKind, bodyLength, headOf, wordOf, wordRecordLength}
+use Rattle.records.proofs.KindBytes.{kindByte, head-byte}
 use Rattle.records.specs.declared.Walk.{Walk}
 use Rattle.records.specs.declared.Walk.the-variants.{Laid, WrongKind, Missing, WrongVariables, WrongFactor, NotCanonical, WrongCount, After, TooMany}
 use Rattle.records.specs.declared.Step.the-variants.{Stop}
-use Rattle.records.specs.Walks.{bodyStep, afterEnd, goOn, isFault}
-use Rattle.records.proofs.Whole.{faulty}
-use Rattle.stored.specs.Layout.{firstTableStep, laterStep, tableStep, walkTableFrom, walked, firstPoint, tableLength, longestTable}
+use Rattle.records.specs.Walks.{headStep, bodyStep, afterEnd, goOn, walkBy, isFault}
+use Rattle.records.proofs.Whole.{faulty, head-goes}
+use Rattle.stored.specs.Layout.{firstTableKind, laterTableKind, tableStep, walkTableFrom, walked, firstPoint, tableLength, longestTable}
 use Rattle.stored.specs.Marks.{Mark, mark, noMark, recordMarks, marks, storedPoints}
+use Rattle.stored.specs.Encoding.{markKind}
 use Rattle.stored.specs.Stored.{LaidOut}
-
--- The kind of a record of a point that is on, or free.
-abbrev pub pointKind : Bool → Kind
-pointKind true = On
-pointKind false = Free
 
 -- The bytes from a place on, with a number of records of points behind it, are whole records of points and the end, which gives the
 -- number of all of them; none of them begins where no record of a table can.
 pub data Laying : List ℕ → ℕ → ℕ → ℕ → Type 0 where
-  end : {byte low high place count all : ℕ} → place ≢ longestTable → kindOf byte ≡ End → wordOf low high ≡ count → count ≡ all → Laying (byte ∷ low ∷ high ∷ []) place count all
-  point : {byte low high : ℕ} {rest : List ℕ} {place count all : ℕ} (isOn : Bool) → place ≢ longestTable → kindOf byte ≡ pointKind isOn
+  end : {byte low high place count all : ℕ} → place ≢ longestTable → byte ≡ endKind → wordOf low high ≡ count → count ≡ all → Laying (byte ∷ low ∷ high ∷ []) place count all
+  point : {byte low high : ℕ} {rest : List ℕ} {place count all : ℕ} (isOn : Bool) → place ≢ longestTable → byte ≡ markKind isOn
       → Laying rest (place + 3) (count + 1) all → Laying (byte ∷ low ∷ high ∷ rest) place count all
 
 -- The bytes are those of a table with that many records of points.
 pub data LaidAs : List ℕ → ℕ → Type 0 where
-  table : {byte n : ℕ} {rest : List ℕ} {all : ℕ} → kindOf byte ≡ Variables → Laying rest 2 0 all → LaidAs (byte ∷ n ∷ rest) all
+  table : {byte n : ℕ} {rest : List ℕ} {all : ℕ} → byte ≡ variablesKind → Laying rest 2 0 all → LaidAs (byte ∷ n ∷ rest) all
 
 -- ---- from the walk to the records
 
 -- A record whose body is cut.
-cut : (k : Kind) (count place all : ℕ) (rest : List ℕ) (next : ℕ → Walk) {A : Type 0} → length rest < 2 → goOn (laterStep k count place rest) next ≡ Laid all → A
+cut : (k : Kind) (count place all : ℕ) (rest : List ℕ) (next : ℕ → Walk) {A : Type 0} → length rest < 2 → goOn (laterTableKind k (bodyLength k) count place rest) next ≡ Laid all → A
 cut Variables count place all rest next h e = faulty refl e
 cut Product count place all rest next h e = faulty refl e
 cut Factor count place all rest next h e = faulty refl e
-cut Unknown count place all rest next h e = faulty refl e
 cut On count place all rest next h e = faulty refl (rw (lt-leb 2 (length rest) h) at e)
 cut Free count place all rest next h e = faulty refl (rw (lt-leb 2 (length rest) h) at e)
 cut End count place all rest next h e = faulty refl (rw (lt-leb 2 (length rest) h) at e)
 
--- A record that begins where none can.
+-- A record that begins where one can is of a known kind.
 module _ (byte count place all : ℕ) (rest : List ℕ) (next : ℕ → Walk) where
-  inner : goOn (tableStep byte count place rest) next ≡ Laid all → (place ≢ longestTable) × (goOn (laterStep (kindOf byte) count place rest) next ≡ Laid all)
+  inner : goOn (tableStep count byte place rest) next ≡ Laid all
+      → (place ≢ longestTable) × ((k : Kind) × (byte ≡ kindByte k) × (goOn (laterTableKind k (bodyLength k) count place rest) next ≡ Laid all))
   inner = go (eqb place longestTable) refl
     where
-      go : (t : Bool) → eqb place longestTable ≡ t → goOn (cond t (Stop (After place)) (laterStep (kindOf byte) count place rest)) next ≡ Laid all
-          → (place ≢ longestTable) × (goOn (laterStep (kindOf byte) count place rest) next ≡ Laid all)
+      go : (t : Bool) → eqb place longestTable ≡ t → goOn (cond t (Stop (After place)) (headStep (headOf byte place) (λ k l. laterTableKind k l count place rest))) next ≡ Laid all
+          → (place ≢ longestTable) × ((k : Kind) × (byte ≡ kindByte k) × (goOn (laterTableKind k (bodyLength k) count place rest) next ≡ Laid all))
       go true p e = faulty refl e
-      go false p e = (eqb-false place longestTable p, e)
+      go false p e = (eqb-false place longestTable p, head-goes byte place (λ k l. laterTableKind k l count place rest) next e)
 
 -- The end record: its number is right, and nothing follows.
 ended : (word count all wrong after : ℕ) (rest : List ℕ) → cond (eqb word count) (afterEnd count after rest) (WrongCount wrong) ≡ Laid all → (word ≡ count) × (rest ≡ []) × (count ≡ all)
@@ -80,15 +75,15 @@ module _ (byte low high : ℕ) (rest : List ℕ) (place count all : ℕ) where
   there = le-leb 2 (length (low ∷ high ∷ rest)) (omega arith)
 
   passed : walkTableFrom 2 (count + 1) (place + 1) (low ∷ high ∷ rest) ≡ walkTableFrom 0 (count + 1) (place + 3) rest
-  unfolding walkTableFrom
+  unfolding walkBy
   passed = let third : place + 1 + 1 + 1 ≡ place + 3 = omega arith in ap (λ (p : ℕ). walkTableFrom 0 (count + 1) p rest) third
 
-  whole : (k : Kind) → place ≢ longestTable → kindOf byte ≡ k → goOn (laterStep k count place (low ∷ high ∷ rest)) (λ l. walkTableFrom l (count + 1) (place + 1) (low ∷ high ∷ rest)) ≡ Laid all
+  whole : (k : Kind) → place ≢ longestTable → byte ≡ kindByte k
+      → goOn (laterTableKind k (bodyLength k) count place (low ∷ high ∷ rest)) (λ l. walkTableFrom l (count + 1) (place + 1) (low ∷ high ∷ rest)) ≡ Laid all
       → (walkTableFrom 0 (count + 1) (place + 3) rest ≡ Laid all → Laying rest (place + 3) (count + 1) all) → Laying (byte ∷ low ∷ high ∷ rest) place count all
   whole Variables o q e next = faulty refl e
   whole Product o q e next = faulty refl e
   whole Factor o q e next = faulty refl e
-  whole Unknown o q e next = faulty refl e
   whole On o q e next = point true o q (next (sym passed ∙ (rw there at e)))
   whole Free o q e next = point false o q (next (sym passed ∙ (rw there at e)))
   whole End o q e next =
@@ -96,25 +91,25 @@ module _ (byte low high : ℕ) (rest : List ℕ) (place count all : ℕ) where
       subst (λ (l : List ℕ). Laying (byte ∷ low ∷ high ∷ l) place count all) (sym (h .1)) (end o q (h .0) (h .2))
 
 pub laying : (rest : List ℕ) (place count all : ℕ) → walkTableFrom 0 count place rest ≡ Laid all → Laying rest place count all
-unfolding walkTableFrom
+unfolding walkBy
 laying [] place count all e = faulty refl e
-laying (byte ∷ []) place count all e = cut (kindOf byte) count place all [] _ (omega arith) (inner byte count place all [] _ e .1)
-laying (byte ∷ low ∷ []) place count all e = cut (kindOf byte) count place all (low ∷ []) _ (omega arith) (inner byte count place all (low ∷ []) _ e .1)
+laying (byte ∷ []) place count all e = let h = inner byte count place all [] _ e .1 in cut (h .0) count place all [] _ (omega arith) (h .2)
+laying (byte ∷ low ∷ []) place count all e = let h = inner byte count place all (low ∷ []) _ e .1 in cut (h .0) count place all (low ∷ []) _ (omega arith) (h .2)
 laying (byte ∷ low ∷ high ∷ rest) place count all e =
     let h = inner byte count place all (low ∷ high ∷ rest) _ e in
-    whole byte low high rest place count all (kindOf byte) (h .0) refl (h .1) (laying rest (place + 3) (count + 1) all)
+    whole byte low high rest place count all (h .1 .0) (h .0) (h .1 .1) (h .1 .2) (laying rest (place + 3) (count + 1) all)
 
 -- The first record, then the others.
 begun : (n : ℕ) (rest : List ℕ) → walkTableFrom 0 0 2 rest ≡ walkTableFrom 1 0 1 (n ∷ rest)
-unfolding walkTableFrom
+unfolding walkBy
 begun n rest = refl
 
 pub laid : (bytes : List ℕ) (all : ℕ) → walked bytes ≡ Laid all → LaidAs bytes all
 unfolding walked
 laid [] all e = faulty refl e
-laid (byte ∷ rest) all e = go (kindOf byte) refl rest e
+laid (byte ∷ rest) all e = let h = head-goes byte 0 (λ k l. firstTableKind k l rest) (λ l. walkTableFrom l 0 1 rest) e in go (h .0) (h .1) rest (h .2)
   where
-    go : (k : Kind) → kindOf byte ≡ k → (rest : List ℕ) → goOn (firstTableStep k rest) (λ l. walkTableFrom l 0 1 rest) ≡ Laid all → LaidAs (byte ∷ rest) all
+    go : (k : Kind) → byte ≡ kindByte k → (rest : List ℕ) → goOn (firstTableKind k (bodyLength k) rest) (λ l. walkTableFrom l 0 1 rest) ≡ Laid all → LaidAs (byte ∷ rest) all
     go Variables q [] e = faulty refl e
     go Variables q (n ∷ rest) e = table q (laying rest 2 0 all (begun n rest ∙ (rw (le-leb 1 (length (n ∷ rest)) (omega arith)) at e)))
     go Product q rest e = faulty refl e
@@ -122,24 +117,23 @@ laid (byte ∷ rest) all e = go (kindOf byte) refl rest e
     go End q rest e = faulty refl e
     go On q rest e = faulty refl e
     go Free q rest e = faulty refl e
-    go Unknown q rest e = faulty refl e
 
 -- ---- from the records to the walk
 
-later-point : (isOn : Bool) (count place : ℕ) (rest : List ℕ) → laterStep (pointKind isOn) count place rest ≡ bodyStep (Length 2) place rest
-later-point true count place rest = refl
-later-point false count place rest = refl
+later-point : (isOn : Bool) (count place : ℕ) (rest : List ℕ) → headStep (headOf (markKind isOn) place) (λ k l. laterTableKind k l count place rest) ≡ bodyStep 2 place rest
+later-point true count place rest = rw (head-byte On place)
+later-point false count place rest = rw (head-byte Free place)
 
 pub walk-laying : {rest : List ℕ} {place count all : ℕ} → Laying rest place count all → walkTableFrom 0 count place rest ≡ Laid all
-unfolding walkTableFrom
-walk-laying {place = place} {count = count} (end o q w a) = rw (ne-eqb place longestTable o, q, eq-eqb _ count w) (ap Laid a)
+unfolding walkBy
+walk-laying {place = place} {count = count} (end o q w a) = rw (ne-eqb place longestTable o, q, head-byte End place, eq-eqb _ count w) (ap Laid a)
 walk-laying {place = place} {count = count} {all = all} (point {byte} {low} {high} {rest} isOn o q r) =
     rw (ne-eqb place longestTable o, q, later-point isOn count place (low ∷ high ∷ rest), there byte low high rest place count all)
     (passed byte low high rest place count all ∙ walk-laying r)
 
 pub walk-laid : {bytes : List ℕ} {all : ℕ} → LaidAs bytes all → walked bytes ≡ Laid all
 unfolding walked
-walk-laid (table {byte} {n} {rest} q r) = rw (q, le-leb 1 (length (n ∷ rest)) (omega arith)) (sym (begun n rest) ∙ walk-laying r)
+walk-laid (table {byte} {n} {rest} q r) = rw (q, head-byte Variables 0, le-leb 1 (length (n ∷ rest)) (omega arith)) (sym (begun n rest) ∙ walk-laying r)
 
 -- ---- how long the bytes are
 
@@ -161,12 +155,12 @@ laid-few (table q r) = laying-few r refl (omega arith)
 -- ---- what stands at each place
 
 -- The marks of a record of a point and of what follows it.
-pub marks-point : (byte low high : ℕ) (rest : List ℕ) (isOn : Bool) → kindOf byte ≡ pointKind isOn → recordMarks (byte ∷ low ∷ high ∷ rest) ≡ mark isOn (wordOf low high) ∷ recordMarks rest
+pub marks-point : (byte low high : ℕ) (rest : List ℕ) (isOn : Bool) → byte ≡ markKind isOn → recordMarks (byte ∷ low ∷ high ∷ rest) ≡ mark isOn (wordOf low high) ∷ recordMarks rest
 unfolding recordMarks
 marks-point byte low high rest true q = rw q
 marks-point byte low high rest false q = rw q
 
-pub marks-end : (byte low high : ℕ) → kindOf byte ≡ End → recordMarks (byte ∷ low ∷ high ∷ []) ≡ []
+pub marks-end : (byte low high : ℕ) → byte ≡ endKind → recordMarks (byte ∷ low ∷ high ∷ []) ≡ []
 unfolding recordMarks
 marks-end byte low high q = rw q
 
@@ -187,9 +181,9 @@ mark-later k bytes place =
     let two : k + (place + 2) ≡ k + place + 2 = omega arith in
     cc (getD-drop k bytes place 0, getD-drop k bytes (place + 1) 0, getD-drop k bytes (place + 2) 0)
 
-kind-on : (byte : ℕ) (isOn : Bool) → kindOf byte ≡ pointKind isOn → eqb byte onKind ≡ isOn
-kind-on byte true q = eq-eqb byte onKind (kind-byte byte q)
-kind-on byte false q = ap (λ (b : ℕ). eqb b onKind) (kind-byte byte q)
+kind-on : (byte : ℕ) (isOn : Bool) → byte ≡ markKind isOn → eqb byte onKind ≡ isOn
+kind-on byte true q = ap (λ (b : ℕ). eqb b onKind) q
+kind-on byte false q = ap (λ (b : ℕ). eqb b onKind) q
 
 laying-at : {rest : List ℕ} {place count all : ℕ} → Laying rest place count all → (i : ℕ) → i < length (recordMarks rest) → getD (recordMarks rest) i noMark ≡ markAt rest (3 * i)
 laying-at (end {byte} {low} {high} o q w a) i h = absurd (omega (arith, ap length (marks-end byte low high q)))

@@ -5,3 +5,4 @@ pub mod Encodings
 pub mod Points
 pub mod Accepting
 pub mod Rooms
+pub mod Exactly

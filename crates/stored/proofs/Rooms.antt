@@ -1,4 +1,4 @@
--- Laws of specs.Reading: the room is tested last, and a table that is read has no fault and fits.
+-- Laws of specs.Reading: the room is tested last, and a table that is read has no fault and fits. Read next: Exactly.
 use mathlib.Core.Path.{_≡_, refl, sym, _∙_}
 use mathlib.Core.Bool.{Bool, true, false, cond, _||_}
 use mathlib.Core.Logic.{_≢_}

@@ -1,11 +1,12 @@
 -- The bytes of a stored table (document 01, "The written form"). That a list of bytes is laid out as a table exactly if it is one of these
--- is `laid-exactly`. Read next: Stored.
+-- is `laid-exactly`, and that it is accepted exactly if it is that of a valid table is `table-exactly`. Read next: Stored.
 use mathlib.Core.Path.{_≡_}
 use mathlib.Core.Bool.{Bool, true, false}
-use mathlib.Core.List.{List, [], _∷_, _++_}
-use Prim.Native.Nat.{ℕ, _≤_, _<_}
+use mathlib.Core.List.{List, [], _∷_, _++_, map}
+use Prim.Native.Nat.{ℕ, _≤_, _<_, _^_}
 use lib.ListN.{length}
-use Rattle.gf2.specs.Finite.{Mem}
+use Rattle.gf2.specs.Limits.{maxVariables}
+use Rattle.gf2.specs.Finite.{Mem, Rising}
 use Rattle.records.specs.Kinds.{variablesKind, onKind, freeKind, encodeRecord, encodeEnd}
 use Rattle.table.specs.Flags.{maxPoints}
 use Rattle.stored.specs.Marks.{Mark}
@@ -32,3 +33,11 @@ pub record Encoded (bytes : List ℕ) : Type 0 where
   pub two-bytes : (m : Mark) → Mem m listed → m .point < 65536
   pub few : length listed ≤ maxPoints
   pub same : bytes ≡ encodeTable variables listed
+
+-- n and the marks of a table that is accepted: n from 1 to the largest number of variables, points below 2 ^ n that rise overall, each on or
+-- free (document 01, "Points and spaces" and "The written form").
+pub record ValidTable (n : ℕ) (listed : List Mark) : Type 0 where
+  pub some : 1 ≤ n
+  pub few : n ≤ maxVariables
+  pub below : (m : Mark) → Mem m listed → m .point < 2 ^ n
+  pub rises : Rising (map (λ m. m .point) listed)

@@ -3,10 +3,9 @@
 use mathlib.Core.Bool.{Bool, true, false, cond, Bool·beq}
 use mathlib.Core.List.{List, [], _∷_, map}
 use Prim.Native.Nat.{ℕ}
+use lib.Dec.{eqb}
 use lib.ListN.{getD, drop}
-use Rattle.records.specs.declared.Kind.{Kind}
-use Rattle.records.specs.declared.Kind.the-variants.{Variables, Product, Factor, End, On, Free, Unknown}
-use Rattle.records.specs.Kinds.{kindOf, wordOf}
+use Rattle.records.specs.Kinds.{onKind, freeKind, wordOf}
 use Rattle.stored.specs.Layout.{firstPoint}
 
 -- A point with its mark: on, or else free.
@@ -22,22 +21,18 @@ mark isOn point = record { isOn = isOn; point = point }
 abbrev pub noMark : Mark
 noMark = mark false 0
 
--- The mark of a record of a point before the marks that follow it; any other kind ends them.
-abbrev pub markBefore : Kind → ℕ → List Mark → List Mark
-markBefore On point rest = mark true point ∷ rest
-markBefore Free point rest = mark false point ∷ rest
-markBefore Variables point rest = []
-markBefore Product point rest = []
-markBefore Factor point rest = []
-markBefore End point rest = []
-markBefore Unknown point rest = []
+-- The mark of a record of a point, by its kind byte, before the marks that follow it; any other byte ends them.
+abbrev pub markBefore : ℕ → ℕ → List Mark → List Mark
+markBefore kind point rest =
+    cond (eqb kind onKind) (mark true point ∷ rest)
+    (cond (eqb kind freeKind) (mark false point ∷ rest) [])
 
 -- The marks of records of points, one after the other.
 unfoldable pub recordMarks : List ℕ → List Mark
 recordMarks [] = []
 recordMarks (kind ∷ []) = []
 recordMarks (kind ∷ low ∷ []) = []
-recordMarks (kind ∷ low ∷ high ∷ rest) = markBefore (kindOf kind) (wordOf low high) (recordMarks rest)
+recordMarks (kind ∷ low ∷ high ∷ rest) = markBefore kind (wordOf low high) (recordMarks rest)
 
 -- n is the body of the first record.
 abbrev pub storedVariables : List ℕ → ℕ

@@ -4,7 +4,6 @@ ghost use mathlib.Core.Path.{_≡_};
 ghost use mathlib.Core.Bool.{Bool·beq};
 ghost use Prim.Native.Nat.{_+_, _≤_, _<_};
 ghost use lib.ListN.{length, getD, drop};
-ghost use Rattle.records.specs.Kinds.{kindOf};
 ghost use Rattle.gf2.specs.Limits.{maxVariables};
 ghost use Rattle.table.specs.Decision.{front};
 ghost use Rattle.table.specs.Table.{outside, unordered};
@@ -12,6 +11,7 @@ ghost use Rattle.stored.specs.Marks.{noMark, marks, markedPoints, stored
 ghost use Rattle.stored.specs.Reading.{readFault, readAnswer, onAfter, freeAfter};
 ghost use Rattle.stored.specs.Stored.{LaidOut, storedFault};
 ghost use Rattle.stored.specs.Layout.{firstTableStep, tableStep, walkTableFrom, walked};
+use records::Head;
 use records::Kind;
 use records::Step;
 use records::WORD_RECORD_LENGTH;
@@ -37,29 +37,33 @@ pub struct TableRead {
 // The first record of a table.
 fn first_step(bytes: &[u8]) -> Step
     requires { ⌜ 0 < length (now bytes) ⌝ }
-    ensures { λ r. ⌜ r ≡ firstTableStep (kindOf (getD (now (bytes .entry)) 0 0)) (drop 1 (now (bytes .entry))) ⌝ }
+    ensures { λ r. ⌜ r ≡ firstTableStep (getD (now (bytes .entry)) 0 0) (drop 1 (now (bytes .entry))) ⌝ }
 {
-    let kind = records::kind_of(bytes[0]);
-    match kind {
-        Kind::Variables => records::body_step(bytes, 0, kind),
-        _ => Step::Stop(Walk::WrongKind(0)),
+    match records::head_of(bytes[0], 0) {
+        Head::Refused(fault) => Step::Stop(fault),
+        Head::Known(kind, body) => match kind {
+            Kind::Variables => records::body_step(bytes, 0, body),
+            _ => Step::Stop(Walk::WrongKind(0)),
+        },
     }
 }
 
 // A later record, at the place, with a number of records before it.
 fn record_step(bytes: &[u8], count: usize, place: usize) -> Step
     requires { ⌜ place < length (now bytes) ⌝ }
-    ensures { λ r. ⌜ r ≡ tableStep (getD (now (bytes .entry)) place 0) count place (drop (place + 1) (now (bytes .entry))) ⌝ }
+    ensures { λ r. ⌜ r ≡ tableStep count (getD (now (bytes .entry)) place 0) place (drop (place + 1) (now (bytes .entry))) ⌝ }
 {
     if place == LONGEST_TABLE {
         return Step::Stop(Walk::After(place));
     }
-    let kind = records::kind_of(bytes[place]);
-    match kind {
-        Kind::On => records::body_step(bytes, place, kind),
-        Kind::Free => records::body_step(bytes, place, kind),
-        Kind::End => records::end_step(bytes, count, place),
-        _ => Step::Stop(Walk::WrongKind(place)),
+    match records::head_of(bytes[place], place) {
+        Head::Refused(fault) => Step::Stop(fault),
+        Head::Known(kind, body) => match kind {
+            Kind::On => records::body_step(bytes, place, body),
+            Kind::Free => records::body_step(bytes, place, body),
+            Kind::End => records::end_step(bytes, count, place, body),
+            _ => Step::Stop(Walk::WrongKind(place)),
+        },
     }
 }
 

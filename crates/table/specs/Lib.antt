@@ -1,5 +1,5 @@
--- What a table is, and when it is refused (document 01, "Points and spaces" and "Refusal numbers").
--- Read in this order. The laws about these definitions stand in proofs/, under the same headings.
+-- The refusal numbers and the decision by them, what a table is and when it is refused, and flags for its points (document 01, "Points and
+-- spaces" and "Refusal numbers"). Read in this order. The laws about these definitions stand in proofs/.
 pub mod Refusal
 pub mod Decision
 pub mod Table

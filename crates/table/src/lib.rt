@@ -1,5 +1,5 @@
 // The tests of a table (document 01, "Refusal numbers") and flags that mark points. What the words mean is in specs/, the laws about them
-// in proofs/. Read next: crate `space`.
+// in proofs/. Read next: specs/Refusal.antt.
 use gf2::MAX_VARIABLES;
 ghost use mathlib.Core.Path.{_≡_};
 ghost use mathlib.Core.Bool.{false};

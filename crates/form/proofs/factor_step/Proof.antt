@@ -20,8 +20,8 @@ returns c = rw (eq-eqb _ _ (c .if1 .taken))
 body-step-requires : tie.Need-body-step-requires
 body-step-requires c κs = search needs
 
-enum-known-body : tie.Need-enum-known-body
-enum-known-body c = search needs
+enum-known-found : tie.Need-enum-known-found
+enum-known-found c = search needs
 
 enum-told : tie.Need-enum-told
 enum-told c = search needs
@@ -36,8 +36,10 @@ returns-2 c =
 there : (c : tie.After-known-told) → 3 ≤ length (drop (c .before .before .before .before .before .before .before .args .place + 1) (c .before .before .before .before .before .before .before .args .bytes .now))
 there c =
     let b = c .before .before .before in
-    let a = b .before .before .before .before .args in
-    body-length 3 (a .place) (drop (a .place + 1) (a .bytes .now)) (c .before .body .given .0 .0) (sym (b .body-step .ensures) ∙ c .before .body .given .1) .1
+    let s = b .before .before .before .before in
+    let a = s .args in
+    let h = body-length (a .body) (a .place) (drop (a .place + 1) (a .bytes .now)) (c .before .found .given .0 .0) (sym (b .body-step .ensures) ∙ c .before .found .given .1) in
+    omega (arith, h .1, s .pre .1 .1)
 
 mask-at-requires : tie.Need-mask-at-requires
 mask-at-requires c κs =
@@ -72,7 +74,7 @@ returns-3 : tie.Need-returns-3
 returns-3 c =
     let k = c .before .before .before .before in
     let b = k .before .before .before in
-    rw (ne-eqb _ 0 (b .before .if1 .left), sym (b .body-step .ensures) ∙ k .before .body .given .1, fitting (c .before) ∙ not-true _ (c .if2 .taken))
+    rw (ne-eqb _ 0 (b .before .if1 .left), sym (b .body-step .ensures) ∙ k .before .found .given .1, fitting (c .before) ∙ not-true _ (c .if2 .taken))
 
 agrees-before-requires : tie.Need-agrees-before-requires
 agrees-before-requires c κs =
@@ -99,14 +101,14 @@ returns-4 c =
     let e = c .before .before in
     let k = e .before .before .before .before in
     let b = k .before .before .before in
-    rw (ne-eqb _ 0 (b .before .if1 .left), sym (b .body-step .ensures) ∙ k .before .body .given .1, fitting (e .before) ∙ not-false _ (e .if2 .left), agreeing (c .before) ∙ not-true _ (c .if3 .taken))
+    rw (ne-eqb _ 0 (b .before .if1 .left), sym (b .body-step .ensures) ∙ k .before .found .given .1, fitting (e .before) ∙ not-false _ (e .if2 .left), agreeing (c .before) ∙ not-true _ (c .if3 .taken))
 
 returns-5 : tie.Need-returns-5
 returns-5 c =
     let e = c .before .before in
     let k = e .before .before .before .before in
     let b = k .before .before .before in
-    rw (ne-eqb _ 0 (b .before .if1 .left), sym (b .body-step .ensures) ∙ k .before .body .given .1, fitting (e .before) ∙ not-false _ (e .if2 .left), agreeing (c .before) ∙ not-false _ (c .if3 .left))
+    rw (ne-eqb _ 0 (b .before .if1 .left), sym (b .body-step .ensures) ∙ k .before .found .given .1, fitting (e .before) ∙ not-false _ (e .if2 .left), agreeing (c .before) ∙ not-false _ (c .if3 .left))
 
 pub factor-step-spec : {M : Type 1} → statement M
 factor-step-spec =
@@ -114,7 +116,7 @@ factor-step-spec =
     (tie.spec
     returns
     body-step-requires
-    enum-known-body
+    enum-known-found
     enum-told
     returns-2
     mask-at-requires

@@ -2,18 +2,9 @@
 -- whole form. Assumes nothing.
 use mathlib.Core.Path.{_≡_, sym, ap, _∙_}
 use mathlib.Core.Bool.{Bool, true, _&&_, _||_}
-use mathlib.Core.List.{[], _∷_}
-use mathlib.Core.Logic.{_≢_}
 use Prim.Native.Nat.{ℕ, _≤_, _+_, _-_}
-use denote.Enum.Declared.{tagOf}
-use types.Run.{OneOf, miss}
 use native.Mathlib.Omega.{arith}
-use borrow.Author.Needs.{needs}
-use lib.ListN.{length, drop, getD}
-use Rattle.records.specs.declared.Kind.{Kind}
-use Rattle.records.specs.declared.Kind.the-variants.{Product, Factor}
-use Rattle.records.specs.Kinds.{kindOf}
-use Rattle.records.proofs.Kind.{the-type}
+use lib.ListN.{length, drop}
 use Rattle.product.specs.Product.{factorAt}
 use Rattle.form.specs.Form.{formAt}
 use Rattle.form.specs.Decoding.{factorOf, partsFrom, decodeForm}
@@ -21,10 +12,6 @@ use Rattle.form.proofs.Laying.{form-laid}
 use Rattle.form.proofs.Valuing.{valueFrom, value-first, Rest, rest-first, rest-there, product-at, factor-at, end-at}
 use Rattle.form.proofs.form_at.Statement.{statement}
 use Rattle.form.proofs.form_at.Tie as tie
-
--- Every kind of the enum but a product and a factor is neither.
-neither : (k : Kind) → OneOf (0 ∷ 3 ∷ 4 ∷ 5 ∷ 6 ∷ []) (tagOf the-type k) → (k ≢ Product) × (k ≢ Factor)
-neither k h = (λ e. miss (0 ∷ 3 ∷ 4 ∷ 5 ∷ 6 ∷ []) 1 tt (rw e at h), λ e. miss (0 ∷ 3 ∷ 4 ∷ 5 ∷ 6 ∷ []) 2 tt (rw e at h))
 
 abbrev Inv-loop : tie.InvT-loop
 Inv-loop bytes point place₀ holds₀ place holds =
@@ -39,62 +26,49 @@ loop-holds c =
     let b = s .args .bytes .now in
     (rest-first (form-laid b (s .pre) .1), value-first (partsFrom 0 (drop 2 b)) (s .args .point))
 
-shared-slice-read-kind-of : tie.Need-shared-slice-read-kind-of Inv-loop μ-loop
-shared-slice-read-kind-of c = rest-there (c .before .before .before .args .bytes .now) (c .before .loop .place) (c .before .loop .inv .0)
-
-kind-of-requires : tie.Need-kind-of-requires Inv-loop μ-loop
-kind-of-requires c κs = search needs
-
-enum-told : tie.Need-enum-told Inv-loop μ-loop
-enum-told c = search needs
-
--- A product begins at the loop's place.
-begun : (c : tie.After-enum-told Inv-loop μ-loop) → kindOf (getD (c .before .before .before .before .before .before .args .bytes .now) (c .before .before .before .before .loop .place) 0) ≡ Product
-begun c = sym (c .before .before .kind-of .ensures) ∙ c .enum-told .given .1
+shared-slice-read-kind : tie.Need-shared-slice-read-kind Inv-loop μ-loop
+shared-slice-read-kind c = rest-there (c .before .before .before .args .bytes .now) (c .before .loop .place) (c .before .loop .inv .0)
 
 returns : tie.Need-returns Inv-loop μ-loop
 returns c =
-    let h = c .before .before .before .before .before in
+    let h = c .before .before .before in
     let a = h .before .before .args in
-    let on = product-at (a .bytes .now) (h .loop .place) (h .loop .inv .0) (begun (c .before)) in
+    let on = product-at (a .bytes .now) (h .loop .place) (h .loop .inv .0) (c .before .match .keys1) in
     let v = valueFrom true (partsFrom 0 (drop (h .loop .place + 1) (a .bytes .now))) (a .point) in
     sym (sym (h .loop .inv .1) ∙ on .1 (h .loop .holds) (a .point) ∙ ap (λ (t : Bool). t || v) (c .if1 .taken))
 
 add-place : tie.Need-add-place Inv-loop μ-loop
 add-place c =
-    let h = c .before .before .before .before .before in
+    let h = c .before .before .before in
     omega (arith, rest-there (h .before .before .args .bytes .now) (h .loop .place) (h .loop .inv .0))
 
 loop-less : tie.Need-loop-less Inv-loop μ-loop
 loop-less c =
-    let h = c .before .before .before .before .before in
+    let h = c .before .before .before in
     omega (arith, rest-there (h .before .before .args .bytes .now) (h .loop .place) (h .loop .inv .0))
 
 loop-again : tie.Need-loop-again Inv-loop μ-loop
 loop-again c =
-    let h = c .before .before .before .before .before in
+    let h = c .before .before .before in
     let a = h .before .before .args in
-    let on = product-at (a .bytes .now) (h .loop .place) (h .loop .inv .0) (begun (c .before)) in
+    let on = product-at (a .bytes .now) (h .loop .place) (h .loop .inv .0) (c .before .match .keys1) in
     let v = valueFrom true (partsFrom 0 (drop (h .loop .place + 1) (a .bytes .now))) (a .point) in
     (on .0, sym (on .1 (h .loop .holds) (a .point) ∙ ap (λ (t : Bool). t || v) (c .if1 .left)) ∙ h .loop .inv .1)
 
-enum-told-2 : tie.Need-enum-told-2 Inv-loop μ-loop
-enum-told-2 c = search needs
-
 -- A factor stands at the loop's place: it is whole, a rest follows, and it counts for the product that the loop is in.
-module _ (c : tie.After-enum-told2 Inv-loop μ-loop) where
+module _ (c : tie.At-match-keys2 Inv-loop μ-loop) where
   counts :
-      (c .before .before .before .before .loop .place + 4 ≤ length (c .before .before .before .before .before .before .args .bytes .now))
-      × Rest (drop (c .before .before .before .before .loop .place + 4) (c .before .before .before .before .before .before .args .bytes .now))
+      (c .before .before .loop .place + 4 ≤ length (c .before .before .before .before .args .bytes .now))
+      × Rest (drop (c .before .before .loop .place + 4) (c .before .before .before .before .args .bytes .now))
       × ((inside : Bool) (w : ℕ)
-      → valueFrom inside (partsFrom 0 (drop (c .before .before .before .before .loop .place) (c .before .before .before .before .before .before .args .bytes .now))) w
+      → valueFrom inside (partsFrom 0 (drop (c .before .before .loop .place) (c .before .before .before .before .args .bytes .now))) w
       ≡ valueFrom
-      (inside && factorAt (factorOf (drop (c .before .before .before .before .loop .place + 1) (c .before .before .before .before .before .before .args .bytes .now))) w)
-      (partsFrom 0 (drop (c .before .before .before .before .loop .place + 4) (c .before .before .before .before .before .before .args .bytes .now)))
+      (inside && factorAt (factorOf (drop (c .before .before .loop .place + 1) (c .before .before .before .before .args .bytes .now))) w)
+      (partsFrom 0 (drop (c .before .before .loop .place + 4) (c .before .before .before .before .args .bytes .now)))
       w)
   counts =
-      let h = c .before .before .before .before in
-      factor-at (h .before .before .args .bytes .now) (h .loop .place) (h .loop .inv .0) (sym (c .before .before .kind-of .ensures) ∙ c .enum-told2 .given .1)
+      let h = c .before .before in
+      factor-at (h .before .before .args .bytes .now) (h .loop .place) (h .loop .inv .0) (c .match .keys2)
 
 still-holds-requires : tie.Need-still-holds-requires Inv-loop μ-loop
 still-holds-requires c κs = counts c .0
@@ -107,19 +81,17 @@ loop-less-2 c = omega (arith, counts (c .before) .0)
 
 loop-again-2 : tie.Need-loop-again-2 Inv-loop μ-loop
 loop-again-2 c =
-    let h = c .before .before .before .before .before in
+    let h = c .before .before .before in
     let a = h .before .before .args in
     let on = counts (c .before) in
     (on .1, rw (c .still-holds .ensures) (sym (on .2 (h .loop .holds) (a .point)) ∙ h .loop .inv .1))
 
 returns-2 : tie.Need-returns-2 Inv-loop μ-loop
 returns-2 c =
-    let k = c .before in
-    let h = k .before .before in
+    let h = c .before .before in
     let a = h .before .before .args in
-    let other = neither (k .kind-of .result) (c .match .keys3) in
-    sym (end-at (a .bytes .now) (h .loop .place) (h .loop .inv .0) (λ e. other .0 (k .kind-of .ensures ∙ e)) (λ e. other .1 (k .kind-of .ensures ∙ e)) (h .loop .holds) (a .point))
-    ∙ h .loop .inv .1
+    let r = c .match .rest in
+    sym (end-at (a .bytes .now) (h .loop .place) (h .loop .inv .0) (r .0 .1) (r .1) (h .loop .holds) (a .point)) ∙ h .loop .inv .1
 
 pub form-at-spec : {M : Type 1} → statement M
 form-at-spec =
@@ -128,14 +100,11 @@ form-at-spec =
     Inv-loop
     μ-loop
     loop-holds
-    shared-slice-read-kind-of
-    kind-of-requires
-    enum-told
+    shared-slice-read-kind
     returns
     add-place
     loop-less
     loop-again
-    enum-told-2
     still-holds-requires
     add-place-2
     loop-less-2

@@ -28,7 +28,7 @@ sound : (c : tie.Else1) → formFault (c .before .before .before .before .args .
 sound c = sym (c .before .form-fault .ensures) ∙ c .if1 .left
 
 accepted : (c : tie.Else1) → IsForm (c .before .before .before .before .args .bytes .now)
-accepted c = accepted-form (c .before .before .before .before .args .bytes .now) (sound c)
+accepted c = accepted-form (c .before .before .before .before .args .bytes .now) .0 (sound c)
 
 shared-slice-read-n : tie.Need-shared-slice-read-n
 shared-slice-read-n c = form-begins (c .before .before .before .before .before .args .bytes .now) (accepted (c .before)) .0

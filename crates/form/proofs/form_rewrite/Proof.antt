@@ -28,7 +28,7 @@ sound c = sym (c .before .form-fault .ensures) ∙ c .if1 .left
 same : (c : tie.Else1) → rewritten (c .before .before .before .before .args .bytes .now) ≡ c .before .before .before .before .args .bytes .now
 same c =
     let s = c .before .before .before .before .args .bytes .now in
-    rewritten-same s (slice-bytes s (λ i. omega (arith, c .before .before .before .shared-slice-known .given i))) (accepted-form s (sound c))
+    rewritten-same s (slice-bytes s (λ i. omega (arith, c .before .before .before .shared-slice-known .given i))) (accepted-form s .0 (sound c))
 
 returns-2 : tie.Need-returns-2
 returns-2 c =

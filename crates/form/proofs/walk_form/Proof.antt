@@ -6,7 +6,6 @@ use borrow.Author.Needs.{needs}
 use lib.ListN.{length, drop, getD, length-drop}
 use lib.Seq.{getD-drop}
 use Rattle.gf2.specs.Limits.{maxVariables}
-use Rattle.records.specs.Kinds.{kindOf}
 use Rattle.table.specs.Table.{badCount}
 use Rattle.table.proofs.Table.{good-count}
 use Rattle.records.specs.declared.Step.the-variants.{Whole}
@@ -31,7 +30,7 @@ enum-known-length c = search needs
 module _ (c : tie.After-known-told2) where
   step :
       firstFormStep
-      (kindOf (getD (c .before .before .before .before .before .before .args .bytes .now) 0 0))
+      (getD (c .before .before .before .before .before .before .args .bytes .now) 0 0)
       (drop 1 (c .before .before .before .before .before .before .args .bytes .now))
       ≡ Whole (c .before .length .given .0 .0)
   step = sym (c .before .before .before .first-step .ensures) ∙ c .before .length .given .1
@@ -39,13 +38,13 @@ module _ (c : tie.After-known-told2) where
   there : (1 + c .before .length .given .0 .0 ≤ length (c .before .before .before .before .before .before .args .bytes .now)) × (1 < length (c .before .before .before .before .before .before .args .bytes .now))
   there =
       let s = c .before .before .before .before .before .before .args .bytes .now in
-      let w = first-whole (kindOf (getD s 0 0)) (drop 1 s) (c .before .length .given .0 .0) step in
+      let w = first-whole (getD s 0 0) (drop 1 s) (c .before .length .given .0 .0) step in
       (omega (arith, w .0, w .1, length-drop 1 s), omega (arith, w .1, length-drop 1 s))
 
   few : getD (c .before .before .before .before .before .before .args .bytes .now) 1 0 ≤ maxVariables
   few =
       let s = c .before .before .before .before .before .before .args .bytes .now in
-      let w = first-whole (kindOf (getD s 0 0)) (drop 1 s) (c .before .length .given .0 .0) step in
+      let w = first-whole (getD s 0 0) (drop 1 s) (c .before .length .given .0 .0) step in
       good-count (getD s 1 0) .0 (sym (ap badCount (getD-drop 1 s 0 0)) ∙ w .2) .1
 
 shared-slice-read-walk-records : tie.Need-shared-slice-read-walk-records

@@ -4,12 +4,13 @@ use mathlib.Core.Path.{_≡_, refl, sym, _∙_}
 use mathlib.Core.List.{[]}
 use native.Mathlib.Omega.{arith}
 use borrow.Author.Needs.{needs}
-use lib.ListN.{length, drop, getD, drop-of-length-le}
-use Rattle.records.specs.Kinds.{kindOf}
+use lib.ListN.{length, drop, getD}
 use Rattle.records.specs.declared.Step.the-variants.{Whole}
-use Rattle.form.specs.Walk.{behind, formStep, walkFormFrom}
+use Rattle.records.specs.Walks.{bytesMissing}
+use Rattle.records.proofs.Walking.{walk-over, walk-ends, walk-goes}
+use Rattle.form.specs.Walk.{behind, formStep, passed, walkFormFrom}
 use Rattle.form.specs.Counting.{Counted, behindBy, factorsBefore}
-use Rattle.form.proofs.Walking.{Carried, carried, none-fit, walk-ends, walk-goes}
+use Rattle.form.proofs.Walking.{Carried, carried, none-fit, record-whole}
 use Rattle.form.proofs.walk_records.Statement.{statement}
 use Rattle.form.proofs.walk_records.Tie as tie
 
@@ -38,7 +39,7 @@ returns c =
     let r = e .before .before in
     let k = r .before .before in
     let a = k .before .before .args in
-    sym (walk-ends (a .n) (a .bytes .now) (behindBy (a .bytes .now) (k .loop .counts) (k .loop .place)) (k .loop .place) (omega arith) (e .end .given .0 .0) (sym (r .record-step .ensures) ∙ e .end .given .1))
+    sym (walk-ends (formStep (a .n)) passed bytesMissing (a .bytes .now) (behindBy (a .bytes .now) (k .loop .counts) (k .loop .place)) (k .loop .place) (omega arith) (e .end .given .0 .0) (sym (r .record-step .ensures) ∙ e .end .given .1))
     ∙ k .loop .inv .1
 
 enum-known-length : tie.Need-enum-known-length Inv-loop μ-loop
@@ -53,7 +54,7 @@ module _ (c : tie.After-counts-after Inv-loop μ-loop) where
       formStep
       (c .before .before .before .before .before .before .before .before .args .n)
       (behindBy (c .before .before .before .before .before .before .before .before .args .bytes .now) (c .before .before .before .before .before .before .loop .counts) (c .before .before .before .before .before .before .loop .place))
-      (kindOf (getD (c .before .before .before .before .before .before .before .before .args .bytes .now) (c .before .before .before .before .before .before .loop .place) 0))
+      (getD (c .before .before .before .before .before .before .before .before .args .bytes .now) (c .before .before .before .before .before .before .loop .place) 0)
       (c .before .before .before .before .before .before .loop .place)
       (drop (c .before .before .before .before .before .before .loop .place + 1) (c .before .before .before .before .before .before .before .before .args .bytes .now))
       ≡ Whole (c .before .before .length .given .0 .0)
@@ -63,14 +64,14 @@ module _ (c : tie.After-counts-after Inv-loop μ-loop) where
       Carried
       (c .before .before .before .before .before .before .before .before .args .n)
       (c .before .before .before .before .before .before .before .before .args .bytes .now)
-      (kindOf (getD (c .before .before .before .before .before .before .before .before .args .bytes .now) (c .before .before .before .before .before .before .loop .place) 0))
+      (getD (c .before .before .before .before .before .before .before .before .args .bytes .now) (c .before .before .before .before .before .before .loop .place) 0)
       (c .before .before .before .before .before .before .loop .counts)
       (c .before .before .before .before .before .before .loop .place)
       (c .before .before .length .given .0 .0)
   carry =
       let h = c .before .before .before .before .before .before in
       let a = h .before .before .args in
-      carried (a .n) (a .bytes .now) (h .loop .counts) (h .loop .place) (h .loop .inv .0) (omega arith) (kindOf (getD (a .bytes .now) (h .loop .place) 0)) (c .before .before .length .given .0 .0) step
+      carried (a .n) (a .bytes .now) (h .loop .counts) (h .loop .place) (h .loop .inv .0) (omega arith) (getD (a .bytes .now) (h .loop .place) 0) (c .before .before .length .given .0 .0) step
 
 add-place : tie.Need-add-place Inv-loop μ-loop
 add-place c = search needs
@@ -86,18 +87,19 @@ loop-again c =
     let h = c .before .before .before .before .before .before in
     let a = h .before .before .args in
     let l = c .before .before .length .given .0 .0 in
+    let b = behindBy (a .bytes .now) (h .loop .counts) (h .loop .place) in
+    let there = record-whole (a .n) b (getD (a .bytes .now) (h .loop .place) 0) (h .loop .place) (drop (h .loop .place + 1) (a .bytes .now)) l (step c) in
     rw (c .counts-after .ensures) (
       carry c .counted,
       rw (carry c .behindThen)
-          (sym (walk-goes (a .n) (a .bytes .now) (behindBy (a .bytes .now) (h .loop .counts) (h .loop .place)) (h .loop .place) (omega arith) l (step c)) ∙ h .loop .inv .1),
+          (sym (walk-goes (formStep (a .n)) passed bytesMissing (a .bytes .now) b (h .loop .place) (omega arith) l there (step c)) ∙ h .loop .inv .1),
     )
 
 returns-2 : tie.Need-returns-2 Inv-loop μ-loop
-unfolding walkFormFrom
 returns-2 c =
     let h = c .before .loop in
-    let s = c .before .before .before .args .bytes .now in
-    rw (drop-of-length-le s {i = h .place} (omega arith)) at (h .inv .1)
+    let a = c .before .before .before .args in
+    sym (walk-over (formStep (a .n)) passed bytesMissing (a .bytes .now) (behindBy (a .bytes .now) (h .counts) (h .place)) (h .place) (omega arith)) ∙ h .inv .1
 
 pub walk-records-spec : {M : Type 1} → statement M
 walk-records-spec =

@@ -7,12 +7,11 @@ use borrow.Author.Needs.{needs}
 use borrow.Author.Tests.{eq-eqb, ne-eqb}
 use lib.ListN.{length, drop, getD, length-drop, drop-of-length-le}
 use lib.Seq.{drop-drop, getD-drop, drop-cons}
-use Rattle.records.specs.declared.Body.the-variants.{Length}
 use Rattle.records.specs.Kinds.{wordOf}
 use Rattle.records.specs.declared.Walk.the-variants.{Laid, WrongCount, After}
 use Rattle.records.specs.declared.Step.the-variants.{Whole, Stop}
 use Rattle.records.specs.Walks.{endStep}
-use Rattle.records.proofs.Whole.{body-whole}
+use Rattle.records.proofs.Whole.{body-length}
 use Rattle.records.proofs.end_step.Statement.{statement}
 use Rattle.records.proofs.end_step.Tie as tie
 
@@ -36,8 +35,8 @@ module _ (s : List ℕ) (count place l : ℕ) where
 body-step-requires : tie.Need-body-step-requires
 body-step-requires c κs = search needs
 
-enum-known-body : tie.Need-enum-known-body
-enum-known-body c = search needs
+enum-known-found : tie.Need-enum-known-found
+enum-known-found c = search needs
 
 enum-told : tie.Need-enum-told
 enum-told c = search needs
@@ -51,13 +50,12 @@ add-next : tie.Need-add-next
 add-next c = search needs
 
 -- The length of the body, and the bytes that are there.
-whole : (c : tie.After-known-told) → (c .before .body .given .0 .0 ≡ 2) × (c .before .before .before .before .before .args .place + 3 ≤ length (c .before .before .before .before .before .args .bytes .now))
+whole : (c : tie.After-known-told) → (c .before .found .given .0 .0 ≡ 2) × (c .before .before .before .before .before .args .place + 3 ≤ length (c .before .before .before .before .before .args .bytes .now))
 whole c =
-    let a = c .before .before .before .before .before .args in
-    let l = c .before .body .given .0 .0 in
-    let h = body-whole (Length 2) (a .place) (drop (a .place + 1) (a .bytes .now)) l (sym (c .before .before .before .body-step .ensures) ∙ c .before .body .given .1) in
-    let e : l ≡ 2 = cc (h .0) in
-    (e, omega (arith, h .1, length-drop (a .place + 1) (a .bytes .now)))
+    let s = c .before .before .before .before .before in
+    let a = s .args in
+    let h = body-length (a .body) (a .place) (drop (a .place + 1) (a .bytes .now)) (c .before .found .given .0 .0) (sym (c .before .before .before .body-step .ensures) ∙ c .before .found .given .1) in
+    (h .0 ∙ s .pre .1, omega (arith, s .pre .1, h .1, length-drop (a .place + 1) (a .bytes .now)))
 
 add-next-2 : tie.Need-add-next-2
 add-next-2 c = omega (arith, whole c .0, whole c .1)
@@ -88,31 +86,31 @@ returns-2 c =
     let w = c .before in
     let k = w .before .before .before in
     let a = k .before .before .before .before .before .args in
-    rw (sym (k .before .before .before .body-step .ensures) ∙ k .before .body .given .1)
-    (other (a .bytes .now) (a .count) (a .place) (k .before .body .given .0 .0) (λ e. c .if1 .taken (w .word .ensures ∙ e)))
+    rw (sym (k .before .before .before .body-step .ensures) ∙ k .before .found .given .1)
+    (other (a .bytes .now) (a .count) (a .place) (k .before .found .given .0 .0) (λ e. c .if1 .taken (w .word .ensures ∙ e)))
 
 returns-3 : tie.Need-returns-3
 returns-3 c =
     let w = c .before .before in
     let k = w .before .before .before in
     let a = k .before .before .before .before .before .args in
-    rw (sym (k .before .before .before .body-step .ensures) ∙ k .before .body .given .1)
-    (more (a .bytes .now) (a .count) (a .place) (k .before .body .given .0 .0) (sym (w .word .ensures) ∙ c .before .if1 .left) (c .if2 .taken))
+    rw (sym (k .before .before .before .body-step .ensures) ∙ k .before .found .given .1)
+    (more (a .bytes .now) (a .count) (a .place) (k .before .found .given .0 .0) (sym (w .word .ensures) ∙ c .before .if1 .left) (c .if2 .taken))
 
 returns-4 : tie.Need-returns-4
 returns-4 c =
     let w = c .before .before in
     let k = w .before .before .before in
     let a = k .before .before .before .before .before .args in
-    rw (sym (k .before .before .before .body-step .ensures) ∙ k .before .body .given .1)
-    (done (a .bytes .now) (a .count) (a .place) (k .before .body .given .0 .0) (sym (w .word .ensures) ∙ c .before .if1 .left) (c .if2 .left))
+    rw (sym (k .before .before .before .body-step .ensures) ∙ k .before .found .given .1)
+    (done (a .bytes .now) (a .count) (a .place) (k .before .found .given .0 .0) (sym (w .word .ensures) ∙ c .before .if1 .left) (c .if2 .left))
 
 pub end-step-spec : {M : Type 1} → statement M
 end-step-spec =
     tie.close
     (tie.spec
     body-step-requires
-    enum-known-body
+    enum-known-found
     enum-told
     returns
     add-next

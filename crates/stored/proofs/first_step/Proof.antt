@@ -1,35 +1,42 @@
--- `stored::first_step` meets its contract: the kind of the first byte decides. Assumes nothing.
+-- `stored::first_step` meets its contract: the decision over the first byte, then the kind that it gives. Assumes nothing.
 use mathlib.Core.Path.{_≡_, refl, sym, _∙_}
 use mathlib.Core.List.{List, [], _∷_}
 use Prim.Native.Nat.{ℕ}
 use denote.Enum.Declared.{tagOf}
 use types.Run.{OneOf, miss}
 use borrow.Author.Needs.{needs}
-use lib.ListN.{drop}
+use lib.ListN.{drop, getD}
 use Rattle.records.specs.declared.Kind.{Kind}
-use Rattle.records.specs.declared.Kind.the-variants.{Variables, Product, Factor, End, On, Free, Unknown}
+use Rattle.records.specs.declared.Kind.the-variants.{Variables, Product, Factor, End, On, Free}
 use Rattle.records.proofs.Kind.{the-type}
 use Rattle.records.specs.declared.Walk.the-variants.{WrongKind}
+use Rattle.records.specs.declared.Head.the-variants.{Known}
 use Rattle.records.specs.declared.Step.the-variants.{Stop}
-use Rattle.stored.specs.Layout.{firstTableStep}
+use Rattle.records.specs.Kinds.{headOf}
+use Rattle.stored.specs.Layout.{firstTableKind}
 use Rattle.stored.proofs.first_step.Statement.{statement}
 use Rattle.stored.proofs.first_step.Tie as tie
 
--- Every kind but the first of the enum is wrong here.
-wrong : (k : Kind) (rest : List ℕ) → OneOf (1 ∷ 2 ∷ 3 ∷ 4 ∷ 5 ∷ 6 ∷ []) (tagOf the-type k) → Stop (WrongKind 0) ≡ firstTableStep k rest
-wrong Variables rest h = absurd (miss (1 ∷ 2 ∷ 3 ∷ 4 ∷ 5 ∷ 6 ∷ []) 0 tt h)
-wrong Product rest h = refl
-wrong Factor rest h = refl
-wrong End rest h = refl
-wrong On rest h = refl
-wrong Free rest h = refl
-wrong Unknown rest h = refl
+-- Every kind but the first of the enum stands wrong here.
+wrong : (k : Kind) (l : ℕ) (rest : List ℕ) → OneOf (1 ∷ 2 ∷ 3 ∷ 4 ∷ 5 ∷ []) (tagOf the-type k) → Stop (WrongKind 0) ≡ firstTableKind k l rest
+wrong Variables l rest h = absurd (miss (1 ∷ 2 ∷ 3 ∷ 4 ∷ 5 ∷ []) 0 tt h)
+wrong Product l rest h = refl
+wrong Factor l rest h = refl
+wrong End l rest h = refl
+wrong On l rest h = refl
+wrong Free l rest h = refl
 
-shared-slice-read-kind-of : tie.Need-shared-slice-read-kind-of
-shared-slice-read-kind-of c = search needs
+shared-slice-read-head-of : tie.Need-shared-slice-read-head-of
+shared-slice-read-head-of c = search needs
 
-kind-of-requires : tie.Need-kind-of-requires
-kind-of-requires c κs = search needs
+head-of-requires : tie.Need-head-of-requires
+head-of-requires c κs = search needs
+
+enum-known-fault : tie.Need-enum-known-fault
+enum-known-fault c = search needs
+
+enum-known-kind : tie.Need-enum-known-kind
+enum-known-kind c = search needs
 
 enum-told : tie.Need-enum-told
 enum-told c = search needs
@@ -38,13 +45,33 @@ body-step-requires : tie.Need-body-step-requires
 body-step-requires c κs = search needs
 
 returns : tie.Need-returns
-returns c =
-    let e = c .before .enum-told .given .1 in
-    c .body-step .ensures ∙ rw (e, sym (c .before .before .before .kind-of .ensures) ∙ e)
+returns c = rw (sym (c .before .before .before .head-of .ensures) ∙ c .before .fault .given .1)
+
+-- The kind of the first byte, once it is known.
+known : (c : tie.After-known-told2) → headOf (getD (c .before .before .before .before .before .before .args .bytes .now) 0 0) 0 ≡ Known (c .before .kind .given .0 .0) (c .before .kind .given .0 .1 .0)
+known c = sym (c .before .before .before .head-of .ensures) ∙ c .before .kind .given .1
 
 returns-2 : tie.Need-returns-2
-returns-2 c = rw (← c .before .kind-of .ensures) (wrong (c .before .kind-of .result) (drop 1 (c .before .before .before .before .args .bytes .now)) (c .match .keys2))
+returns-2 c =
+    let k = c .before .before .before in
+    c .body-step .ensures ∙ sym (rw (known k, c .before .enum-told .given .1))
+
+returns-3 : tie.Need-returns-3
+returns-3 c =
+    let k = c .before in
+    let g = k .before .kind .given .0 in
+    rw (known k) (wrong (g .0) (g .1 .0) (drop 1 (k .before .before .before .before .before .before .args .bytes .now)) (c .match2 .keys2))
 
 pub first-step-spec : {M : Type 1} → statement M
 first-step-spec =
-    tie.close (tie.spec shared-slice-read-kind-of kind-of-requires enum-told body-step-requires returns returns-2)
+    tie.close
+    (tie.spec
+    shared-slice-read-head-of
+    head-of-requires
+    enum-known-fault
+    enum-known-kind
+    enum-told
+    body-step-requires
+    returns
+    returns-2
+    returns-3)

@@ -3,10 +3,12 @@ use Prim.Native.Nat.{_≤_, _+_, _-_}
 use mathlib.Core.Path.{_≡_, refl, sym, _∙_}
 use native.Mathlib.Omega.{arith}
 use borrow.Author.Needs.{needs}
-use lib.ListN.{length, drop, getD, length-drop, drop-of-length-le}
+use lib.ListN.{length, drop, getD, length-drop}
 use Rattle.records.specs.declared.Step.the-variants.{Whole}
-use Rattle.stored.specs.Layout.{tableStep, walkTableFrom}
-use Rattle.stored.proofs.Walking.{record-whole, walk-ends, walk-goes}
+use Rattle.records.specs.Walks.{bytesMissing}
+use Rattle.records.proofs.Walking.{walk-over, walk-ends, walk-goes}
+use Rattle.stored.specs.Layout.{tableStep, countPassed, walkTableFrom}
+use Rattle.stored.proofs.Walking.{record-whole}
 use Rattle.stored.proofs.walk_records.Statement.{statement}
 use Rattle.stored.proofs.walk_records.Tie as tie
 
@@ -30,7 +32,7 @@ returns c =
     let e = c .before in
     let r = e .before .before in
     let k = r .before .before in
-    sym (walk-ends (k .before .before .args .bytes .now) (k .loop .count) (k .loop .place) (omega arith) (e .end .given .0 .0) (sym (r .record-step .ensures) ∙ e .end .given .1)) ∙ k .loop .inv .2
+    sym (walk-ends tableStep countPassed bytesMissing (k .before .before .args .bytes .now) (k .loop .count) (k .loop .place) (omega arith) (e .end .given .0 .0) (sym (r .record-step .ensures) ∙ e .end .given .1)) ∙ k .loop .inv .2
 
 enum-known-length : tie.Need-enum-known-length Inv-loop μ-loop
 enum-known-length c = search needs
@@ -39,18 +41,23 @@ enum-known-length c = search needs
 module _ (c : tie.After-known-told2 Inv-loop μ-loop) where
   step :
       tableStep
-      (getD (c .before .before .before .before .before .before .before .args .bytes .now) (c .before .before .before .before .before .loop .place) 0)
       (c .before .before .before .before .before .loop .count)
+      (getD (c .before .before .before .before .before .before .before .args .bytes .now) (c .before .before .before .before .before .loop .place) 0)
       (c .before .before .before .before .before .loop .place)
       (drop (c .before .before .before .before .before .loop .place + 1) (c .before .before .before .before .before .before .before .args .bytes .now))
       ≡ Whole (c .before .length .given .0 .0)
   step = sym (c .before .before .before .record-step .ensures) ∙ c .before .length .given .1
 
+  body : c .before .length .given .0 .0 ≤ length (drop (c .before .before .before .before .before .loop .place + 1) (c .before .before .before .before .before .before .before .args .bytes .now))
+  body =
+      let h = c .before .before .before .before .before in
+      let s = h .before .before .args .bytes .now in
+      record-whole (h .loop .count) (getD s (h .loop .place) 0) (h .loop .place) (drop (h .loop .place + 1) s) (c .before .length .given .0 .0) step
+
   there : c .before .before .before .before .before .loop .place + 1 + c .before .length .given .0 .0 ≤ length (c .before .before .before .before .before .before .before .args .bytes .now)
   there =
-      let p = c .before .before .before .before .before .loop .place in
-      let s = c .before .before .before .before .before .before .before .args .bytes .now in
-      omega (arith, record-whole (getD s p 0) (c .before .before .before .before .before .loop .count) p (drop (p + 1) s) (c .before .length .given .0 .0) step, length-drop (p + 1) s)
+      let h = c .before .before .before .before .before in
+      omega (arith, body, length-drop (h .loop .place + 1) (h .before .before .args .bytes .now))
 
 add-place : tie.Need-add-place Inv-loop μ-loop
 add-place c = search needs
@@ -69,15 +76,14 @@ loop-again c =
     let h = c .before .before .before .before .before in (
       there c,
       omega arith,
-      sym (walk-goes (h .before .before .args .bytes .now) (h .loop .count) (h .loop .place) (omega arith) (c .before .length .given .0 .0) (step c)) ∙ h .loop .inv .2,
+      sym (walk-goes tableStep countPassed bytesMissing (h .before .before .args .bytes .now) (h .loop .count) (h .loop .place) (omega arith) (c .before .length .given .0 .0) (body c) (step c))
+          ∙ h .loop .inv .2,
     )
 
 returns-2 : tie.Need-returns-2 Inv-loop μ-loop
-unfolding walkTableFrom
 returns-2 c =
     let h = c .before .loop in
-    let s = c .before .before .before .args .bytes .now in
-    rw (drop-of-length-le s {i = h .place} (omega arith)) at (h .inv .2)
+    sym (walk-over tableStep countPassed bytesMissing (c .before .before .before .args .bytes .now) (h .count) (h .place) (omega arith)) ∙ h .inv .2
 
 pub walk-records-spec : {M : Type 1} → statement M
 walk-records-spec =

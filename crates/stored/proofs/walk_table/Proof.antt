@@ -4,7 +4,6 @@ use Prim.Native.Nat.{_≤_, _+_}
 use native.Mathlib.Omega.{arith}
 use borrow.Author.Needs.{needs}
 use lib.ListN.{length, drop, getD, length-drop}
-use Rattle.records.specs.Kinds.{kindOf}
 use Rattle.records.specs.declared.Step.the-variants.{Whole}
 use Rattle.stored.specs.Layout.{firstTableStep}
 use Rattle.stored.proofs.Walking.{walk-none, first-whole, first-ends, first-goes}
@@ -27,7 +26,7 @@ enum-known-length c = search needs
 module _ (c : tie.After-known-told2) where
   step :
       firstTableStep
-      (kindOf (getD (c .before .before .before .before .before .before .args .bytes .now) 0 0))
+      (getD (c .before .before .before .before .before .before .args .bytes .now) 0 0)
       (drop 1 (c .before .before .before .before .before .before .args .bytes .now))
       ≡ Whole (c .before .length .given .0 .0)
   step = sym (c .before .before .before .first-step .ensures) ∙ c .before .length .given .1
@@ -35,7 +34,7 @@ module _ (c : tie.After-known-told2) where
   there : 1 + c .before .length .given .0 .0 ≤ length (c .before .before .before .before .before .before .args .bytes .now)
   there =
       let s = c .before .before .before .before .before .before .args .bytes .now in
-      omega (arith, first-whole (kindOf (getD s 0 0)) (drop 1 s) (c .before .length .given .0 .0) step, length-drop 1 s)
+      omega (arith, first-whole (getD s 0 0) (drop 1 s) (c .before .length .given .0 .0) step, length-drop 1 s)
 
 add-walk-records : tie.Need-add-walk-records
 add-walk-records c = omega (arith, there c)
