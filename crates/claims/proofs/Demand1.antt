@@ -4,49 +4,51 @@ use mathlib.Core.Bool.{false}
 use mathlib.Core.Logic.{_≢_}
 use mathlib.Core.List.{List, [], map}
 use Prim.Native.Nat.{ℕ}
+use lib.ListN.{length}
 use borrow.Author.Tests.{eq-eqb, ne-eqb}
 use Rattle.gf2.specs.Finite.{holds}
-use Rattle.table.specs.Refusal.{Test, firstFault}
-use Rattle.table.specs.Decision.{decide, roomAfter}
+use Rattle.table.specs.Refusal.{firstFault}
+use Rattle.table.specs.Decision.{Decision, answerOf, afterOf}
 use Rattle.table.specs.Table.{tableTests, shared}
 use Rattle.table.proofs.Refusal.{numbered, fault-first, no-fault}
 use Rattle.table.proofs.Decide.{decide-accepted, decide-refused, decide-number, decide-exact}
 use Rattle.table.proofs.Table.{refuted, shared-mem}
 use Rattle.stored.specs.Stored.{storedTests, storedFault}
-use Rattle.stored.specs.Reading.{refusedRead, readAnswer, onAfter, freeAfter}
-use Rattle.form.specs.Reading.{refusedPoints, pointsAnswer, pointsAfter, refusedRewrite, rewriteAnswer, rewriteAfter}
+use Rattle.stored.specs.Reading.{readCall, readAnswer, readOnAfter, readFreeAfter}
+use Rattle.analysis.specs.Spaces.{linearSpaceCall, linearSpaceAnswer, completeCall, completeAnswer, completeAfter, analyseCall, analyseAnswer, analyseAfter}
+use Rattle.analysis.specs.Affine.{affineCall, affineAnswer, affineAfter}
+use Rattle.form.specs.Reading.{pointsCall, pointsAnswer, pointsAfter, rewriteCall, rewriteAnswer, rewriteAfter}
 use Rattle.cubes.specs.Lists.{keep}
-use Rattle.cubes.specs.Listing.{listingRefused, listingAnswer, listingAfter}
-use Rattle.writing.specs.Writing.{writeRefused, writeAnswer, writeAfter}
+use Rattle.cubes.specs.Listing.{listingCall, listingAnswer, listingAfter}
+use Rattle.listing.specs.Answers.{callOf}
+use Rattle.writing.specs.Writing.{writeCall, writeAnswer, writeAfter}
 use Rattle.table_report.specs.Text.{refusedLine}
 use Rattle.report.specs.Report.{reportText}
-use Rattle.report.specs.Answer.{reportRefused, reportAnswer, reportAfter}
-use Rattle.analysis.specs.Spaces.{linearSpaceRefused, linearSpaceAnswer, completeRefused, completeAnswer, completeAfter, analyseRefused, analyseAnswer, analyseAfter}
-use Rattle.analysis.specs.Affine.{affineRefused, affineAnswer, affineAfter}
-use Rattle.claims.specs.Demand1.{refusalOrder, Room, AllZero, Decides, Printed, Demand1}
+use Rattle.report.specs.Answer.{reportCall, reportAnswer, reportAfter}
+use Rattle.claims.specs.Demand1.{Room, AllZero, Decides, Printed, Demand1}
 
 -- ---- any call that decides by its tests
 
-module _ {A : Type 0} (numbers : List ℕ) (tests : List Test) (refusal : A → ℕ) (others : A → List ℕ) (accepted : A) (refused : ℕ → A) (rooms : List Room) where
+module _ {A : Type 0} (fixed numbers : List ℕ) (refusal : A → ℕ) (others : A → List ℕ) (d : Decision A) (rooms : List Room) where
   -- The answer and every room go by the one decision; a refused answer has its number, and every other number 0.
-  pub decides : holds numbers 0 ≡ false → map (λ t. t .number) tests ≡ numbers → keep (holds numbers) refusalOrder ≡ numbers
-      → map (λ r. r .after) rooms ≡ map (λ r. roomAfter tests (r .written) (r .before)) rooms
-      → refusal accepted ≡ 0 → ((k : ℕ) → refusal (refused k) ≡ k) → ((k : ℕ) → AllZero (others (refused k)))
-      → Decides numbers tests refusal others accepted (decide tests accepted refused) rooms
+  pub decides : holds numbers 0 ≡ false → map (λ t. t .number) (d .tests) ≡ numbers → keep (holds numbers) fixed ≡ numbers
+      → map (λ r. r .after) rooms ≡ map (λ r. afterOf d (r .written) (r .before)) rooms
+      → refusal (d .accepted) ≡ 0 → ((k : ℕ) → refusal (d .refused k) ≡ k) → ((k : ℕ) → AllZero (others (d .refused k)))
+      → Decides fixed numbers refusal others d (answerOf d) rooms
   decides some tested order after none number zeros = record {
     tested = tested;
     order = order;
-    exact = decide-exact refusal tests accepted refused (numbered tests (ap (λ l. holds l 0) tested ∙ some)) none number;
-    accepts = λ e. let f = sym given ∙ e in (decide-accepted tests accepted refused f, after ∙ rw (eq-eqb (firstFault tests) 0 f));
+    exact = decide-exact refusal (d .tests) (d .accepted) (d .refused) (numbered (d .tests) (ap (λ l. holds l 0) tested ∙ some)) none number;
+    accepts = λ e. let f = sym given ∙ e in (decide-accepted (d .tests) (d .accepted) (d .refused) f, after ∙ rw (eq-eqb (firstFault (d .tests)) 0 f));
     refuses = λ n.
-        let f : firstFault tests ≢ 0 = λ z. n (given ∙ z) in (
-          subst (λ (x : A). AllZero (others x)) (sym (decide-refused tests accepted refused (firstFault tests) f refl)) (zeros (firstFault tests)),
-          after ∙ rw (ne-eqb (firstFault tests) 0 f),
+        let f : firstFault (d .tests) ≢ 0 = λ z. n (given ∙ z) in (
+          subst (λ (x : A). AllZero (others x)) (sym (decide-refused (d .tests) (d .accepted) (d .refused) (firstFault (d .tests)) f refl)) (zeros (firstFault (d .tests))),
+          after ∙ rw (ne-eqb (firstFault (d .tests)) 0 f),
         );
   }
     where
-      given : refusal (decide tests accepted refused) ≡ firstFault tests
-      given = decide-number refusal tests accepted refused none number
+      given : refusal (answerOf d) ≡ firstFault (d .tests)
+      given = decide-number refusal (d .tests) (d .accepted) (d .refused) none number
 
 -- ---- the printed report
 
@@ -62,18 +64,18 @@ report-printed bytes = record {
 -- ---- the calls
 
 pub demand1 : Demand1
-unfolding holds keep tableTests readAnswer onAfter freeAfter linearSpaceAnswer completeAnswer completeAfter analyseAnswer analyseAfter affineAnswer affineAfter listingAnswer listingAfter pointsAnswer pointsAfter rewriteAnswer rewriteAfter writeAnswer writeAfter reportAnswer reportAfter
+unfolding holds keep tableTests readAnswer readOnAfter readFreeAfter linearSpaceAnswer completeAnswer completeAfter analyseAnswer analyseAfter affineAnswer affineAfter listingAnswer listingAfter pointsAnswer pointsAfter rewriteAnswer rewriteAfter writeAnswer writeAfter reportAnswer reportAfter
 demand1 = record {
-  read-table = λ bytes on free. decides _ _ _ _ _ refusedRead _ refl refl refl refl refl (λ k. refl) (λ k. refl);
-  linear-space = λ n on. decides _ _ _ _ _ linearSpaceRefused _ refl refl refl refl refl (λ k. refl) (λ k. refl);
-  complete = λ n on free room. decides _ _ _ _ _ completeRefused _ refl refl refl refl refl (λ k. refl) (λ k. refl);
-  analyse = λ n on free room. decides _ _ _ _ _ analyseRefused _ refl refl refl refl refl (λ k. refl) (λ k. refl);
-  affine = λ n on room. decides _ _ _ _ _ affineRefused _ refl refl refl refl refl (λ k. refl) (λ k. refl);
+  read-table = λ bytes on free. decides _ _ _ _ (readCall bytes (length on) (length free)) _ refl refl refl refl refl (λ k. refl) (λ k. refl);
+  linear-space = λ n on. decides _ _ _ _ (linearSpaceCall n on) _ refl refl refl refl refl (λ k. refl) (λ k. refl);
+  complete = λ n on free room. decides _ _ _ _ (completeCall n on free room) _ refl refl refl refl refl (λ k. refl) (λ k. refl);
+  analyse = λ n on free room. decides _ _ _ _ (analyseCall n on free room) _ refl refl refl refl refl (λ k. refl) (λ k. refl);
+  affine = λ n on room. decides _ _ _ _ (affineCall n on room) _ refl refl refl refl refl (λ k. refl) (λ k. refl);
   never-shared = λ on. refuted (shared on []) (λ e. shared-mem on [] e .2);
-  list-primes = λ n on free place allowance room. decides _ _ _ _ _ listingRefused _ refl refl refl refl refl (λ k. refl) (λ k. refl);
-  write-form = λ n on free room. decides _ _ _ _ _ writeRefused _ refl refl refl refl refl (λ k. refl) (λ k. refl);
-  form-points = λ bytes room. decides _ _ _ _ _ refusedPoints _ refl refl refl refl refl (λ k. refl) (λ k. refl);
-  form-rewrite = λ bytes room. decides _ _ _ _ _ refusedRewrite _ refl refl refl refl refl (λ k. refl) (λ k. refl);
-  report = λ bytes room. decides _ _ _ _ _ reportRefused _ refl refl refl refl refl (λ k. refl) (λ k. refl);
+  list-primes = λ n on free place allowance room. decides _ _ _ _ (listingCall (callOf n on free place allowance room)) _ refl refl refl refl refl (λ k. refl) (λ k. refl);
+  write-form = λ n on free room. decides _ _ _ _ (writeCall n on free room) _ refl refl refl refl refl (λ k. refl) (λ k. refl);
+  form-points = λ bytes room. decides _ _ _ _ (pointsCall bytes room) _ refl refl refl refl refl (λ k. refl) (λ k. refl);
+  form-rewrite = λ bytes room. decides _ _ _ _ (rewriteCall bytes room) _ refl refl refl refl refl (λ k. refl) (λ k. refl);
+  report = λ bytes room. decides _ _ _ _ (reportCall bytes room) _ refl refl refl refl refl (λ k. refl) (λ k. refl);
   printed = report-printed;
 }

@@ -11,7 +11,7 @@ use Rattle.gf2.specs.Finite.{holds, select}
 use Rattle.gf2.proofs.Logic.{same}
 use Rattle.gf2.proofs.Finite.{holds-mem, select-mem, mem-select, select-rising}
 use Rattle.table.specs.Refusal.{Test, test, NoneApplies, sizeFault}
-use Rattle.table.specs.Decision.{front, roomTest}
+use Rattle.table.specs.Decision.{front, Decision, roomTest}
 use Rattle.table.specs.Table.{tableTests, tableFault, Accepted}
 use Rattle.table.proofs.Refusal.{no-fault}
 use Rattle.table.proofs.Table.{table-numbered, accepted, no-refusal}
@@ -21,7 +21,7 @@ use Rattle.space.specs.Completion.{completedPoints}
 use Rattle.space.proofs.Closure.{linear-ext}
 use Rattle.form.specs.declared.FormPoints.{FormPoints}
 use Rattle.form.specs.declared.FormRewrite.{FormRewrite}
-use Rattle.form.specs.Reading.{pointsRead, acceptedPoints, pointsAnswer, pointsAfter, rewritten, acceptedRewrite, rewriteAnswer, rewriteAfter}
+use Rattle.form.specs.Reading.{pointsRead, pointsAccepted, pointsAnswer, pointsAfter, rewritten, rewriteAccepted, rewriteAnswer, rewriteAfter}
 use Rattle.cubes.proofs.Lists.{mem-append}
 use Rattle.cover.specs.WrittenForm.{formSizeFault}
 use Rattle.writing.specs.declared.FormWritten.{FormWritten}
@@ -40,9 +40,9 @@ pub record Gave {A : Type 0} (returned accepted : A) (handed whole : List ℕ) :
   pub list : handed ≡ whole
 
 -- An accepted call hands over its list, if it counts it.
-gave : {A : Type 0} {numbers : List ℕ} {tests : List Test} {refusal : A → ℕ} {others : A → List ℕ} {accepted returned : A} {written before after : List ℕ}
-    → Decides numbers tests refusal others accepted returned (lent written before after ∷ []) → (count : A → ℕ) → count accepted ≡ length written
-    → refusal returned ≡ 0 → Gave returned accepted (take (count returned) after) written
+gave : {A : Type 0} {fixed numbers : List ℕ} {refusal : A → ℕ} {others : A → List ℕ} {call : Decision A} {returned : A} {written before after : List ℕ}
+    → Decides fixed numbers refusal others call returned (lent written before after ∷ []) → (count : A → ℕ) → count (call .accepted) ≡ length written
+    → refusal returned ≡ 0 → Gave returned (call .accepted) (take (count returned) after) written
 gave {A} {written = written} {before} d count c e =
     let a = d .accepts e in record {
       value = a .0;
@@ -92,11 +92,11 @@ module _ (n : ℕ) (on free room : List ℕ) where
 
 module _ (bytes room : List ℕ) where
   pub points-gave : pointsAnswer bytes room .refusal ≡ 0
-      → Gave (pointsAnswer bytes room) (acceptedPoints bytes) (take (pointsAnswer bytes room .count) (pointsAfter bytes room)) (pointsRead bytes)
+      → Gave (pointsAnswer bytes room) (pointsAccepted bytes) (take (pointsAnswer bytes room .count) (pointsAfter bytes room)) (pointsRead bytes)
   points-gave = gave (demand1 .form-points bytes room) (λ (r : FormPoints). r .count) refl
 
   pub rewrite-gave : rewriteAnswer bytes room .refusal ≡ 0
-      → Gave (rewriteAnswer bytes room) (acceptedRewrite bytes) (take (rewriteAnswer bytes room .length) (rewriteAfter bytes room)) (rewritten bytes)
+      → Gave (rewriteAnswer bytes room) (rewriteAccepted bytes) (take (rewriteAnswer bytes room .length) (rewriteAfter bytes room)) (rewritten bytes)
   rewrite-gave = gave (demand1 .form-rewrite bytes room) (λ (r : FormRewrite). r .length) refl
 
 -- ---- `linear_space` of a function's points

@@ -11,37 +11,37 @@ use lib.ListN.{length, replicate}
 use Rattle.gf2.specs.Finite.{holds}
 use Rattle.basis.specs.declared.Basis.{Basis}
 use Rattle.basis.specs.declared.ShortList.{ShortList}
-use Rattle.table.specs.Refusal.{Test, Exact, variablesFault, pointFault, orderFault, sharedFault, sizeFault, affineFault, roomFault, layoutFault, placeFault}
-use Rattle.table.specs.Decision.{front}
+use Rattle.table.specs.Refusal.{Exact, variablesFault, pointFault, orderFault, sharedFault, sizeFault, affineFault, roomFault, layoutFault, placeFault}
+use Rattle.table.specs.Decision.{front, Decision}
 use Rattle.table.specs.Table.{shared}
 use Rattle.stored.specs.declared.TableRead.{TableRead}
 use Rattle.stored.specs.Marks.{storedVariables, storedOn, storedFree}
 use Rattle.stored.specs.Stored.{storedTests, storedFault}
-use Rattle.stored.specs.Reading.{readTests, acceptedRead, readAnswer, onAfter, freeAfter}
+use Rattle.stored.specs.Reading.{readCall, readAnswer, readOnAfter, readFreeAfter}
 use Rattle.space.specs.Completion.{completedPoints}
-use Rattle.form.specs.declared.FormPoints.{FormPoints}
-use Rattle.form.specs.declared.FormRewrite.{FormRewrite}
-use Rattle.form.specs.Reading.{pointsRead, pointsTests, acceptedPoints, pointsAnswer, pointsAfter, rewritten, rewriteTests, acceptedRewrite, rewriteAnswer, rewriteAfter}
-use Rattle.cubes.specs.Lists.{keep}
-use Rattle.cubes.specs.Records.{recordsOf}
-use Rattle.cubes.specs.Listing.{listing, listingTests, Answer, listingAccepted, listingAnswer, listingAfter}
-use Rattle.listing.specs.Answers.{callOf}
-use Rattle.writing.specs.declared.FormWritten.{FormWritten}
-use Rattle.writing.specs.Writing.{formBytes, writeTests, writeAccepted, writeAnswer, writeAfter}
-use Rattle.table_report.specs.Text.{refusedLine, tableText}
-use Rattle.report.specs.Report.{reportText}
-use Rattle.report.specs.declared.ReportWritten.{ReportWritten}
-use Rattle.report.specs.Answer.{reportTests, reportAccepted, reportAnswer, reportAfter}
 use Rattle.analysis.specs.declared.LinearSpace.{LinearSpace}
 use Rattle.analysis.specs.declared.Completion.{Completion}
 use Rattle.analysis.specs.declared.Analysis.{Analysis}
 use Rattle.analysis.specs.declared.AffineSpace.{AffineSpace}
-use Rattle.analysis.specs.Spaces.{linearSpaceTests, linearSpaceAccepted, linearSpaceAnswer, completeTests, completeAccepted, completeAnswer, completeAfter, completedRestriction, analyseTests, analyseAccepted, analyseAnswer, analyseAfter}
-use Rattle.analysis.specs.Affine.{affineProjection, affineTests, affineAccepted, affineAnswer, affineAfter}
+use Rattle.analysis.specs.Spaces.{linearSpaceCall, linearSpaceAnswer, completeCall, completeAnswer, completeAfter, completedRestriction, analyseCall, analyseAnswer, analyseAfter}
+use Rattle.analysis.specs.Affine.{affineProjection, affineCall, affineAnswer, affineAfter}
+use Rattle.form.specs.declared.FormPoints.{FormPoints}
+use Rattle.form.specs.declared.FormRewrite.{FormRewrite}
+use Rattle.form.specs.Reading.{pointsRead, pointsCall, pointsAnswer, pointsAfter, rewritten, rewriteCall, rewriteAnswer, rewriteAfter}
+use Rattle.cubes.specs.Lists.{keep}
+use Rattle.cubes.specs.Records.{recordsOf}
+use Rattle.cubes.specs.Listing.{listing, Answer, listingCall, listingAnswer, listingAfter}
+use Rattle.listing.specs.Answers.{callOf}
+use Rattle.writing.specs.declared.FormWritten.{FormWritten}
+use Rattle.writing.specs.Writing.{formBytes, writeCall, writeAnswer, writeAfter}
+use Rattle.table_report.specs.Text.{refusedLine, tableText}
+use Rattle.report.specs.declared.ReportWritten.{ReportWritten}
+use Rattle.report.specs.Report.{reportText}
+use Rattle.report.specs.Answer.{reportCall, reportAnswer, reportAfter}
 
 -- ---- one call
 
--- The one fixed order of all refusals (document 01, "Refusal numbers"): bytes first, the room last.
+-- The one fixed order of the refusals of document 01, "Refusal numbers": bytes first, the room last.
 abbrev pub refusalOrder : List ℕ
 refusalOrder = layoutFault ∷ variablesFault ∷ pointFault ∷ orderFault ∷ sharedFault ∷ affineFault ∷ sizeFault ∷ placeFault ∷ roomFault ∷ []
 
@@ -58,16 +58,15 @@ lent written before after = record { written = written; before = before; after =
 abbrev pub AllZero : List ℕ → Type 0
 AllZero numbers = numbers ≡ replicate (length numbers) 0
 
--- A call decides by its tests, which have these numbers, and returned `returned`, of which `refusal` is the refusal number, 0 if it was accepted, and
--- `others` are all other numbers, those of its lists and their lengths included. An accepted call returns `accepted`.
-pub record Decides {A : Type 0} (numbers : List ℕ) (tests : List Test) (refusal : A → ℕ) (others : A → List ℕ) (accepted returned : A) (rooms : List Room) : Type 0 where
-  -- The tests have these numbers, and stand in the one fixed order.
-  pub tested : map (λ t. t .number) tests ≡ numbers
-  pub order : keep (holds numbers) refusalOrder ≡ numbers
+-- The call has tests of these numbers, taken in the order that is fixed, and returned `returned`, of which `refusal` is the refusal number, 0 if it was
+-- accepted, and `others` are all other numbers, those of its lists and their lengths included.
+pub record Decides {A : Type 0} (fixed numbers : List ℕ) (refusal : A → ℕ) (others : A → List ℕ) (call : Decision A) (returned : A) (rooms : List Room) : Type 0 where
+  pub tested : map (λ t. t .number) (call .tests) ≡ numbers
+  pub order : keep (holds numbers) fixed ≡ numbers
   -- Refusal r is given exactly when a test of number r applies and none before it does; 0 exactly when none applies.
-  pub exact : Exact tests (refusal returned)
+  pub exact : Exact (call .tests) (refusal returned)
   -- Accepted: each room has its list at the front, and the rest of it is as lent.
-  pub accepts : refusal returned ≡ 0 → (returned ≡ accepted) × (map (λ r. r .after) rooms ≡ map (λ r. front (r .written) (r .before)) rooms)
+  pub accepts : refusal returned ≡ 0 → (returned ≡ call .accepted) × (map (λ r. r .after) rooms ≡ map (λ r. front (r .written) (r .before)) rooms)
   -- Refused: every other number is 0, so that every list is empty, and each room is as lent.
   pub refuses : refusal returned ≢ 0 → AllZero (others returned) × (map (λ r. r .after) rooms ≡ map (λ r. r .before) rooms)
 
@@ -123,47 +122,47 @@ pub record Printed (bytes : List ℕ) : Type 0 where
 
 pub record Demand1 : Type 0 where
   pub read-table : (bytes on free : List ℕ)
-      → Decides (8 ∷ 1 ∷ 2 ∷ 3 ∷ 7 ∷ []) (readTests bytes (length on) (length free)) (λ r. r .refusal) readOthers
-      (acceptedRead bytes) (readAnswer bytes (length on) (length free))
-      (lent (storedOn bytes) on (onAfter bytes on free) ∷ lent (storedFree bytes) free (freeAfter bytes on free) ∷ [])
+      → Decides refusalOrder (8 ∷ 1 ∷ 2 ∷ 3 ∷ 7 ∷ []) (λ r. r .refusal) readOthers
+      (readCall bytes (length on) (length free)) (readAnswer bytes (length on) (length free))
+      (lent (storedOn bytes) on (readOnAfter bytes on free) ∷ lent (storedFree bytes) free (readFreeAfter bytes on free) ∷ [])
   pub linear-space : (n : ℕ) (on : List ℕ)
-      → Decides (1 ∷ 2 ∷ 3 ∷ 4 ∷ []) (linearSpaceTests n on) (λ r. r .refusal) linearSpaceOthers
-      (linearSpaceAccepted n on) (linearSpaceAnswer n on)
+      → Decides refusalOrder (1 ∷ 2 ∷ 3 ∷ 4 ∷ []) (λ r. r .refusal) linearSpaceOthers
+      (linearSpaceCall n on) (linearSpaceAnswer n on)
       []
   pub complete : (n : ℕ) (on free room : List ℕ)
-      → Decides (1 ∷ 2 ∷ 3 ∷ 4 ∷ 7 ∷ []) (completeTests n on free room) (λ r. r .refusal) completeOthers
-      (completeAccepted n on free) (completeAnswer n on free room)
+      → Decides refusalOrder (1 ∷ 2 ∷ 3 ∷ 4 ∷ 7 ∷ []) (λ r. r .refusal) completeOthers
+      (completeCall n on free room) (completeAnswer n on free room)
       (lent (completedPoints n on free) room (completeAfter n on free room) ∷ [])
   pub analyse : (n : ℕ) (on free room : List ℕ)
-      → Decides (1 ∷ 2 ∷ 3 ∷ 4 ∷ 7 ∷ []) (analyseTests n on free room) (λ r. r .refusal) analyseOthers
-      (analyseAccepted n on free) (analyseAnswer n on free room)
+      → Decides refusalOrder (1 ∷ 2 ∷ 3 ∷ 4 ∷ 7 ∷ []) (λ r. r .refusal) analyseOthers
+      (analyseCall n on free room) (analyseAnswer n on free room)
       (lent (completedRestriction n on free) room (analyseAfter n on free room) ∷ [])
   pub affine : (n : ℕ) (on room : List ℕ)
-      → Decides (1 ∷ 2 ∷ 3 ∷ 4 ∷ 6 ∷ 7 ∷ []) (affineTests n on room) (λ r. r .refusal) affineOthers
-      (affineAccepted n on) (affineAnswer n on room)
+      → Decides refusalOrder (1 ∷ 2 ∷ 3 ∷ 4 ∷ 6 ∷ 7 ∷ []) (λ r. r .refusal) affineOthers
+      (affineCall n on room) (affineAnswer n on room)
       (lent (affineProjection n on) room (affineAfter n on room) ∷ [])
   -- The two calls that take on points alone have no free points, so that their test of number 4 never applies.
   pub never-shared : (on : List ℕ) → shared on [] ≡ false
   -- A listing that runs short of room stops and is not refused: there is no 7.
   pub list-primes : (n : ℕ) (on free : List ℕ) (place allowance : ℕ) (room : List ℕ)
-      → Decides (1 ∷ 2 ∷ 3 ∷ 4 ∷ 5 ∷ 9 ∷ []) (listingTests (callOf n on free place allowance room)) (λ r. r .refusal) listingOthers
-      (listingAccepted place (listing (callOf n on free place allowance room))) (listingAnswer (callOf n on free place allowance room))
+      → Decides refusalOrder (1 ∷ 2 ∷ 3 ∷ 4 ∷ 5 ∷ 9 ∷ []) (λ r. r .refusal) listingOthers
+      (listingCall (callOf n on free place allowance room)) (listingAnswer (callOf n on free place allowance room))
       (lent (recordsOf (listing (callOf n on free place allowance room) .primes)) room (listingAfter (callOf n on free place allowance room)) ∷ [])
   pub write-form : (n : ℕ) (on free room : List ℕ)
-      → Decides (1 ∷ 2 ∷ 3 ∷ 4 ∷ 5 ∷ 7 ∷ []) (writeTests n on free room) (λ r. r .refusal) writeOthers
-      (writeAccepted n on free) (writeAnswer n on free room)
+      → Decides refusalOrder (1 ∷ 2 ∷ 3 ∷ 4 ∷ 5 ∷ 7 ∷ []) (λ r. r .refusal) writeOthers
+      (writeCall n on free room) (writeAnswer n on free room)
       (lent (formBytes n on free) room (writeAfter n on free room) ∷ [])
   pub form-points : (bytes room : List ℕ)
-      → Decides (8 ∷ 7 ∷ []) (pointsTests bytes room) (λ r. r .refusal) pointsOthers
-      (acceptedPoints bytes) (pointsAnswer bytes room)
+      → Decides refusalOrder (8 ∷ 7 ∷ []) (λ r. r .refusal) pointsOthers
+      (pointsCall bytes room) (pointsAnswer bytes room)
       (lent (pointsRead bytes) room (pointsAfter bytes room) ∷ [])
   pub form-rewrite : (bytes room : List ℕ)
-      → Decides (8 ∷ 7 ∷ []) (rewriteTests bytes room) (λ r. r .refusal) rewriteOthers
-      (acceptedRewrite bytes) (rewriteAnswer bytes room)
+      → Decides refusalOrder (8 ∷ 7 ∷ []) (λ r. r .refusal) rewriteOthers
+      (rewriteCall bytes room) (rewriteAnswer bytes room)
       (lent (rewritten bytes) room (rewriteAfter bytes room) ∷ [])
   -- The call that gives the report is refused only where the text is longer than the room: a refused table has a text too, which is `printed`.
   pub report : (bytes room : List ℕ)
-      → Decides (7 ∷ []) (reportTests bytes room) (λ r. r .refusal) reportOthers
-      (reportAccepted bytes) (reportAnswer bytes room)
+      → Decides refusalOrder (7 ∷ []) (λ r. r .refusal) reportOthers
+      (reportCall bytes room) (reportAnswer bytes room)
       (lent (reportText bytes) room (reportAfter bytes room) ∷ [])
   pub printed : (bytes : List ℕ) → Printed bytes

@@ -15,7 +15,7 @@ use Rattle.table.proofs.Decide.{Ways, ways}
 use Rattle.form.specs.Form.{Form, formAt, formPoints}
 use Rattle.form.specs.Decoding.{formVariables, decodeForm}
 use Rattle.form.specs.Walk.{walkedForm}
-use Rattle.form.specs.Reading.{IsForm, formFault, pointsRead, acceptedPoints, refusedPoints, pointsAnswer, pointsAfter, rewritten, acceptedRewrite, refusedRewrite, rewriteAnswer, rewriteAfter}
+use Rattle.form.specs.Reading.{IsForm, formFault, pointsRead, pointsAccepted, pointsRefused, pointsAnswer, pointsAfter, rewritten, rewriteAccepted, rewriteRefused, rewriteAnswer, rewriteAfter}
 use Rattle.form.proofs.Laying.{LaidAs, form, form-laid}
 use Rattle.form.proofs.Encodings.{form-valid}
 use Rattle.records.specs.Kinds.{Bytes}
@@ -49,14 +49,14 @@ module _ (bytes : List ℕ) where
   unfolding formPoints
   points-below e = ap (select (formAt (decodeForm bytes))) e
 
-  pub points-ways : (room : List ℕ) → Ways (formFault bytes) (pointsRead bytes) room (acceptedPoints bytes) refusedPoints (pointsAnswer bytes room) (pointsAfter bytes room)
+  pub points-ways : (room : List ℕ) → Ways (formFault bytes) (pointsRead bytes) room (pointsAccepted bytes) pointsRefused (pointsAnswer bytes room) (pointsAfter bytes room)
   unfolding layoutOf pointsAnswer pointsAfter
-  points-ways room = ways (layoutTests (walkedForm bytes)) (pointsRead bytes) room (acceptedPoints bytes) refusedPoints (form-numbered bytes)
+  points-ways room = ways (layoutTests (walkedForm bytes)) (pointsRead bytes) room (pointsAccepted bytes) pointsRefused (form-numbered bytes)
 
   -- The bytes of a form that was read.
-  pub rewrite-ways : (room : List ℕ) → Ways (formFault bytes) (rewritten bytes) room (acceptedRewrite bytes) refusedRewrite (rewriteAnswer bytes room) (rewriteAfter bytes room)
+  pub rewrite-ways : (room : List ℕ) → Ways (formFault bytes) (rewritten bytes) room (rewriteAccepted bytes) rewriteRefused (rewriteAnswer bytes room) (rewriteAfter bytes room)
   unfolding layoutOf rewriteAnswer rewriteAfter
-  rewrite-ways room = ways (layoutTests (walkedForm bytes)) (rewritten bytes) room (acceptedRewrite bytes) refusedRewrite (form-numbered bytes)
+  rewrite-ways room = ways (layoutTests (walkedForm bytes)) (rewritten bytes) room (rewriteAccepted bytes) rewriteRefused (form-numbered bytes)
 
 -- A slice of bytes is a list of bytes.
 pub slice-bytes : (bytes : List ℕ) → ((i : ℕ) → getD bytes i 0 < 256) → Bytes bytes

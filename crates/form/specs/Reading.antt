@@ -6,7 +6,7 @@ use mathlib.Core.List.{List, _++_}
 use Prim.Native.Nat.{ℕ}
 use lib.ListN.{length}
 use Rattle.table.specs.Refusal.{Test}
-use Rattle.table.specs.Decision.{decide, roomAfter, roomTest}
+use Rattle.table.specs.Decision.{Decision, answerOf, afterOf, roomTest}
 use Rattle.records.specs.Walks.{isFault, layoutTests, layoutOf}
 use Rattle.form.specs.declared.FormPoints.{FormPoints}
 use Rattle.form.specs.declared.FormRewrite.{FormRewrite}
@@ -32,20 +32,23 @@ abbrev pub pointsTests : List ℕ → List ℕ → List Test
 pointsTests bytes room = layoutTests (walkedForm bytes) ++ roomTest (pointsRead bytes) room
 
 -- The numbers returned with the points: n, and how many points there are.
-abbrev pub acceptedPoints : List ℕ → FormPoints
-acceptedPoints bytes = record { refusal = 0; variables = formVariables bytes; count = length (pointsRead bytes) }
+abbrev pub pointsAccepted : List ℕ → FormPoints
+pointsAccepted bytes = record { refusal = 0; variables = formVariables bytes; count = length (pointsRead bytes) }
 
 -- A refusal returns its number with all other numbers 0 (document 01, "Refusal numbers").
-abbrev pub refusedPoints : ℕ → FormPoints
-refusedPoints number = record { refusal = number; variables = 0; count = 0 }
+abbrev pub pointsRefused : ℕ → FormPoints
+pointsRefused number = record { refusal = number; variables = 0; count = 0 }
 
--- The numbers returned.
+-- The call, and the numbers that it returns.
+abbrev pub pointsCall : List ℕ → List ℕ → Decision FormPoints
+pointsCall bytes room = record { tests = pointsTests bytes room; accepted = pointsAccepted bytes; refused = pointsRefused }
+
 unfoldable pub pointsAnswer : List ℕ → List ℕ → FormPoints
-pointsAnswer bytes room = decide (pointsTests bytes room) (acceptedPoints bytes) refusedPoints
+pointsAnswer bytes room = answerOf (pointsCall bytes room)
 
 -- The room after the call: the points at its front and the rest as lent, or all as lent.
 unfoldable pub pointsAfter : List ℕ → List ℕ → List ℕ
-pointsAfter bytes room = roomAfter (pointsTests bytes room) (pointsRead bytes) room
+pointsAfter bytes room = afterOf (pointsCall bytes room) (pointsRead bytes) room
 
 -- What was read, written: that it is the bytes that were read is `rewritten-same`.
 abbrev pub rewritten : List ℕ → List ℕ
@@ -56,17 +59,20 @@ abbrev pub rewriteTests : List ℕ → List ℕ → List Test
 rewriteTests bytes room = layoutTests (walkedForm bytes) ++ roomTest (rewritten bytes) room
 
 -- The number returned with it is its length.
-abbrev pub acceptedRewrite : List ℕ → FormRewrite
-acceptedRewrite bytes = record { refusal = 0; length = length (rewritten bytes) }
+abbrev pub rewriteAccepted : List ℕ → FormRewrite
+rewriteAccepted bytes = record { refusal = 0; length = length (rewritten bytes) }
 
 -- A refusal returns its number with the length 0.
-abbrev pub refusedRewrite : ℕ → FormRewrite
-refusedRewrite number = record { refusal = number; length = 0 }
+abbrev pub rewriteRefused : ℕ → FormRewrite
+rewriteRefused number = record { refusal = number; length = 0 }
 
--- The numbers returned.
+-- The call, and the numbers that it returns.
+abbrev pub rewriteCall : List ℕ → List ℕ → Decision FormRewrite
+rewriteCall bytes room = record { tests = rewriteTests bytes room; accepted = rewriteAccepted bytes; refused = rewriteRefused }
+
 unfoldable pub rewriteAnswer : List ℕ → List ℕ → FormRewrite
-rewriteAnswer bytes room = decide (rewriteTests bytes room) (acceptedRewrite bytes) refusedRewrite
+rewriteAnswer bytes room = answerOf (rewriteCall bytes room)
 
 -- The room after the call: the bytes at its front and the rest as lent, or all as lent.
 unfoldable pub rewriteAfter : List ℕ → List ℕ → List ℕ
-rewriteAfter bytes room = roomAfter (rewriteTests bytes room) (rewritten bytes) room
+rewriteAfter bytes room = afterOf (rewriteCall bytes room) (rewritten bytes) room

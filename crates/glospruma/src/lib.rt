@@ -3,7 +3,7 @@
 // call returns the number of document 01, "Refusal numbers", with all other numbers 0 and all lent memory as before. Read next: crate `claims`.
 ghost use mathlib.Core.Path.{_≡_};
 ghost use lib.ListN.{length};
-ghost use Rattle.stored.specs.Reading.{readAnswer, onAfter, freeAfter};
+ghost use Rattle.stored.specs.Reading.{readAnswer, readOnAfter, readFreeAfter};
 ghost use Rattle.form.specs.Reading.{pointsAnswer, pointsAfter, rewriteAnswer, rewriteAfter};
 ghost use Rattle.cubes.specs.Listing.{listingAnswer, listingAfter};
 ghost use Rattle.listing.specs.Answers.{callOf, numbersOf};
@@ -26,8 +26,8 @@ use writing::FormWritten;
 #[no_mangle]
 pub extern "C" fn glospruma_read_table(bytes: &[u8], on: &mut [u16], free: &mut [u16]) -> TableRead
     ensures { λ r. ⌜ r ≡ readAnswer (now (bytes .entry)) (length (now (on .entry))) (length (now (free .entry))) ⌝ }
-    ensures { λ r. ⌜ now (on .exit) ≡ onAfter (now (bytes .entry)) (now (on .entry)) (now (free .entry)) ⌝ }
-    ensures { λ r. ⌜ now (free .exit) ≡ freeAfter (now (bytes .entry)) (now (on .entry)) (now (free .entry)) ⌝ }
+    ensures { λ r. ⌜ now (on .exit) ≡ readOnAfter (now (bytes .entry)) (now (on .entry)) (now (free .entry)) ⌝ }
+    ensures { λ r. ⌜ now (free .exit) ≡ readFreeAfter (now (bytes .entry)) (now (on .entry)) (now (free .entry)) ⌝ }
 {
     stored::read_table(bytes, &mut *on, &mut *free)
 }

@@ -22,7 +22,7 @@ use Rattle.table.proofs.Decide.{decide-accepted, decide-refused, call-short, ca
 use Rattle.stored.specs.declared.TableRead.{TableRead}
 use Rattle.stored.specs.Marks.{storedVariables, storedOn, storedFree}
 use Rattle.stored.specs.Stored.{storedTests, storedFault}
-use Rattle.stored.specs.Reading.{readFault, acceptedRead, readAnswer, onAfter, freeAfter}
+use Rattle.stored.specs.Reading.{readFault, readAccepted, readAnswer, readOnAfter, readFreeAfter}
 use Rattle.stored.proofs.Accepting.{stored-accepted}
 use Rattle.stored.proofs.Rooms.{stored-first, then-room, refused-read, accepted-read, accepted-on, accepted-free}
 use Rattle.text.specs.Writing.{HasRoom, Wrote}
@@ -117,27 +117,27 @@ module _ (bytes on free : List ℕ) (onRoom : length on ≡ maxPoints) (freeRoom
       unfolding reportText storedFault
       read-accepted = sym (decide-accepted (storedTests bytes) (tableText (storedVariables bytes) (storedOn bytes) (storedFree bytes)) refusedLine read-fault)
 
-      pub read-value : r ≡ acceptedRead bytes
+      pub read-value : r ≡ readAccepted bytes
       read-value = e ∙ accepted-read bytes on free (read-same ∙ read-fault)
 
       -- The lists that were read stand at the front of the rooms.
-      on-front : onAfter bytes on free ≡ front (storedOn bytes) on
+      on-front : readOnAfter bytes on free ≡ front (storedOn bytes) on
       on-front = accepted-on bytes on free (read-same ∙ read-fault)
 
-      free-front : freeAfter bytes on free ≡ front (storedFree bytes) free
+      free-front : readFreeAfter bytes on free ≡ front (storedFree bytes) free
       free-front = accepted-free bytes on free (read-same ∙ read-fault)
 
-      pub on-read : (after : List ℕ) → after ≡ onAfter bytes on free → take (r .«on_count» - 0) after ≡ storedOn bytes
+      pub on-read : (after : List ℕ) → after ≡ readOnAfter bytes on free → take (r .«on_count» - 0) after ≡ storedOn bytes
       on-read after q =
           let n : length (storedOn bytes) ≡ r .«on_count» - 0 = omega (arith, ap (λ (x : TableRead). x .«on_count») read-value) in
           rw (q, on-front) (take-at (storedOn bytes) (drop (length (storedOn bytes)) on) (r .«on_count» - 0) n)
 
-      pub free-read : (after : List ℕ) → after ≡ freeAfter bytes on free → take (r .«free_count» - 0) after ≡ storedFree bytes
+      pub free-read : (after : List ℕ) → after ≡ readFreeAfter bytes on free → take (r .«free_count» - 0) after ≡ storedFree bytes
       free-read after q =
           let n : length (storedFree bytes) ≡ r .«free_count» - 0 = omega (arith, ap (λ (x : TableRead). x .«free_count») read-value) in
           rw (q, free-front) (take-at (storedFree bytes) (drop (length (storedFree bytes)) free) (r .«free_count» - 0) n)
 
-      module _ (afterOn afterFree : List ℕ) (p : afterOn ≡ onAfter bytes on free) (q : afterFree ≡ freeAfter bytes on free) where
+      module _ (afterOn afterFree : List ℕ) (p : afterOn ≡ readOnAfter bytes on free) (q : afterFree ≡ readFreeAfter bytes on free) where
         pub read-table : Accepted (r .variables) (take (r .«on_count» - 0) afterOn) (take (r .«free_count» - 0) afterFree)
         read-table =
             let v : r .variables ≡ storedVariables bytes = ap (λ (x : TableRead). x .variables) read-value in

@@ -3,7 +3,7 @@ use mathlib.Core.List.{List}
 use Prim.Native.Nat.{ℕ}
 use lib.ListN.{length}
 use Rattle.table.specs.Refusal.{Test}
-use Rattle.table.specs.Decision.{decide, roomAfter, roomTest}
+use Rattle.table.specs.Decision.{Decision, answerOf, afterOf, roomTest}
 use Rattle.report.specs.declared.ReportWritten.{ReportWritten}
 use Rattle.report.specs.Report.{reportText}
 
@@ -23,10 +23,13 @@ reportAccepted bytes = record { refusal = 0; length = length (reportText bytes) 
 abbrev pub reportRefused : ℕ → ReportWritten
 reportRefused number = record { refusal = number; length = 0 }
 
--- The numbers returned.
+-- The call, and the numbers that it returns.
+abbrev pub reportCall : List ℕ → List ℕ → Decision ReportWritten
+reportCall bytes room = record { tests = reportTests bytes room; accepted = reportAccepted bytes; refused = reportRefused }
+
 unfoldable pub reportAnswer : List ℕ → List ℕ → ReportWritten
-reportAnswer bytes room = decide (reportTests bytes room) (reportAccepted bytes) reportRefused
+reportAnswer bytes room = answerOf (reportCall bytes room)
 
 -- The room after the call: the text at its front and the rest as lent, or all as lent.
 unfoldable pub reportAfter : List ℕ → List ℕ → List ℕ
-reportAfter bytes room = roomAfter (reportTests bytes room) (reportText bytes) room
+reportAfter bytes room = afterOf (reportCall bytes room) (reportText bytes) room

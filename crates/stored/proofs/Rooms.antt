@@ -16,7 +16,7 @@ use Rattle.table.proofs.Refusal.{fault-append, fault-before}
 use Rattle.table.proofs.Decide.{decide-accepted, decide-refused}
 use Rattle.stored.specs.Marks.{storedOn, storedFree}
 use Rattle.stored.specs.Stored.{storedTests, storedFault}
-use Rattle.stored.specs.Reading.{readTests, readFault, refusedRead, acceptedRead, readAnswer, onAfter, freeAfter}
+use Rattle.stored.specs.Reading.{readTests, readFault, readRefused, readAccepted, readAnswer, readOnAfter, readFreeAfter}
 use Rattle.stored.proofs.Accepting.{stored-numbered}
 
 -- A list is longer than its room.
@@ -55,26 +55,26 @@ module _ (bytes on free : List ℕ) where
   abbrev fault : ℕ
   fault = readFault bytes (length on) (length free)
 
-  pub refused-read : fault ≢ 0 → readAnswer bytes (length on) (length free) ≡ refusedRead fault
+  pub refused-read : fault ≢ 0 → readAnswer bytes (length on) (length free) ≡ readRefused fault
   unfolding readAnswer readFault
-  refused-read nz = decide-refused tests (acceptedRead bytes) refusedRead fault nz refl
+  refused-read nz = decide-refused tests (readAccepted bytes) readRefused fault nz refl
 
-  pub refused-on : fault ≢ 0 → onAfter bytes on free ≡ on
-  unfolding onAfter readFault
+  pub refused-on : fault ≢ 0 → readOnAfter bytes on free ≡ on
+  unfolding readOnAfter readFault
   refused-on nz = decide-refused tests (front (storedOn bytes) on) (λ k. on) fault nz refl
 
-  pub refused-free : fault ≢ 0 → freeAfter bytes on free ≡ free
-  unfolding freeAfter readFault
+  pub refused-free : fault ≢ 0 → readFreeAfter bytes on free ≡ free
+  unfolding readFreeAfter readFault
   refused-free nz = decide-refused tests (front (storedFree bytes) free) (λ k. free) fault nz refl
 
-  pub accepted-read : fault ≡ 0 → readAnswer bytes (length on) (length free) ≡ acceptedRead bytes
+  pub accepted-read : fault ≡ 0 → readAnswer bytes (length on) (length free) ≡ readAccepted bytes
   unfolding readAnswer readFault
-  accepted-read e = decide-accepted tests (acceptedRead bytes) refusedRead e
+  accepted-read e = decide-accepted tests (readAccepted bytes) readRefused e
 
-  pub accepted-on : fault ≡ 0 → onAfter bytes on free ≡ front (storedOn bytes) on
-  unfolding onAfter readFault
+  pub accepted-on : fault ≡ 0 → readOnAfter bytes on free ≡ front (storedOn bytes) on
+  unfolding readOnAfter readFault
   accepted-on e = decide-accepted tests (front (storedOn bytes) on) (λ k. on) e
 
-  pub accepted-free : fault ≡ 0 → freeAfter bytes on free ≡ front (storedFree bytes) free
-  unfolding freeAfter readFault
+  pub accepted-free : fault ≡ 0 → readFreeAfter bytes on free ≡ front (storedFree bytes) free
+  unfolding readFreeAfter readFault
   accepted-free e = decide-accepted tests (front (storedFree bytes) free) (λ k. free) e

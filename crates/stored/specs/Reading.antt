@@ -6,7 +6,7 @@ use Prim.Native.Nat.{ℕ}
 use lib.Dec.{ltb}
 use lib.ListN.{length}
 use Rattle.table.specs.Refusal.{Test, test, firstFault, roomFault}
-use Rattle.table.specs.Decision.{decide, roomAfter}
+use Rattle.table.specs.Decision.{Decision, answerOf, afterOf}
 use Rattle.stored.specs.declared.TableRead.{TableRead}
 use Rattle.stored.specs.Marks.{storedVariables, storedOn, storedFree}
 use Rattle.stored.specs.Stored.{storedTests}
@@ -21,21 +21,24 @@ unfoldable pub readFault : List ℕ → ℕ → ℕ → ℕ
 readFault bytes onRoom freeRoom = firstFault (readTests bytes onRoom freeRoom)
 
 -- A refusal returns its number with all other numbers 0.
-abbrev pub refusedRead : ℕ → TableRead
-refusedRead fault = record { refusal = fault; variables = 0; «on_count» = 0; «free_count» = 0 }
+abbrev pub readRefused : ℕ → TableRead
+readRefused fault = record { refusal = fault; variables = 0; «on_count» = 0; «free_count» = 0 }
 
 -- An accepted table returns n and the lengths of both lists.
-abbrev pub acceptedRead : List ℕ → TableRead
-acceptedRead bytes =
+abbrev pub readAccepted : List ℕ → TableRead
+readAccepted bytes =
     record { refusal = 0; variables = storedVariables bytes; «on_count» = length (storedOn bytes); «free_count» = length (storedFree bytes) }
 
--- The numbers returned.
+-- The call, and the numbers that it returns.
+abbrev pub readCall : List ℕ → ℕ → ℕ → Decision TableRead
+readCall bytes onRoom freeRoom = record { tests = readTests bytes onRoom freeRoom; accepted = readAccepted bytes; refused = readRefused }
+
 unfoldable pub readAnswer : List ℕ → ℕ → ℕ → TableRead
-readAnswer bytes onRoom freeRoom = decide (readTests bytes onRoom freeRoom) (acceptedRead bytes) refusedRead
+readAnswer bytes onRoom freeRoom = answerOf (readCall bytes onRoom freeRoom)
 
 -- The rooms after the call: the points at their front and the rest as lent, or all as lent where the call is refused.
-unfoldable pub onAfter : List ℕ → List ℕ → List ℕ → List ℕ
-onAfter bytes onRoom freeRoom = roomAfter (readTests bytes (length onRoom) (length freeRoom)) (storedOn bytes) onRoom
+unfoldable pub readOnAfter : List ℕ → List ℕ → List ℕ → List ℕ
+readOnAfter bytes onRoom freeRoom = afterOf (readCall bytes (length onRoom) (length freeRoom)) (storedOn bytes) onRoom
 
-unfoldable pub freeAfter : List ℕ → List ℕ → List ℕ → List ℕ
-freeAfter bytes onRoom freeRoom = roomAfter (readTests bytes (length onRoom) (length freeRoom)) (storedFree bytes) freeRoom
+unfoldable pub readFreeAfter : List ℕ → List ℕ → List ℕ → List ℕ
+readFreeAfter bytes onRoom freeRoom = afterOf (readCall bytes (length onRoom) (length freeRoom)) (storedFree bytes) freeRoom

@@ -8,7 +8,7 @@ ghost use Rattle.gf2.specs.Limits.{maxVariables};
 ghost use Rattle.table.specs.Decision.{front};
 ghost use Rattle.table.specs.Table.{outside, unordered};
 ghost use Rattle.stored.specs.Marks.{noMark, marks, markedPoints, storedPoints};
-ghost use Rattle.stored.specs.Reading.{readFault, readAnswer, onAfter, freeAfter};
+ghost use Rattle.stored.specs.Reading.{readFault, readAnswer, readOnAfter, readFreeAfter};
 ghost use Rattle.stored.specs.Stored.{LaidOut, storedFault};
 ghost use Rattle.stored.specs.Layout.{firstTableStep, tableStep, walkTableFrom, walked};
 use records::Head;
@@ -241,8 +241,8 @@ fn read_fault(bytes: &[u8], on: usize, free: usize) -> u8
 // The stored table read into two rooms, one for the on points and one for the free points. A refusal writes to neither.
 pub fn read_table(bytes: &[u8], on: &mut [u16], free: &mut [u16]) -> TableRead
     ensures { λ r. ⌜ r ≡ readAnswer (now (bytes .entry)) (length (now (on .entry))) (length (now (free .entry))) ⌝ }
-    ensures { λ r. ⌜ now (on .exit) ≡ onAfter (now (bytes .entry)) (now (on .entry)) (now (free .entry)) ⌝ }
-    ensures { λ r. ⌜ now (free .exit) ≡ freeAfter (now (bytes .entry)) (now (on .entry)) (now (free .entry)) ⌝ }
+    ensures { λ r. ⌜ now (on .exit) ≡ readOnAfter (now (bytes .entry)) (now (on .entry)) (now (free .entry)) ⌝ }
+    ensures { λ r. ⌜ now (free .exit) ≡ readFreeAfter (now (bytes .entry)) (now (on .entry)) (now (free .entry)) ⌝ }
 {
     let fault = read_fault(bytes, on.len(), free.len());
     if fault != 0 {

@@ -5,7 +5,7 @@ use Prim.Native.Nat.{_<_}
 use native.Mathlib.Omega.{arith}
 use borrow.Author.Needs.{needs}
 use lib.ListN.{length}
-use Rattle.stored.specs.Reading.{readFault, refusedRead}
+use Rattle.stored.specs.Reading.{readFault, readRefused}
 use Rattle.stored.proofs.Laying.{table-length}
 use Rattle.stored.proofs.Accepting.{stored-laid}
 use Rattle.stored.proofs.Rooms.{read-fits, refused-read, refused-on, refused-free, accepted-read, accepted-on, accepted-free}
@@ -23,7 +23,7 @@ returns c =
     let on = a .on .now in
     let free = a .free .now in
     let nz : readFault bytes (length on) (length free) ≢ 0 = λ z. c .if1 .taken (f .read-fault .ensures ∙ z) in
-    (ap refusedRead (f .read-fault .ensures) ∙ sym (refused-read bytes on free nz), (sym (refused-on bytes on free nz), sym (refused-free bytes on free nz)))
+    (ap readRefused (f .read-fault .ensures) ∙ sym (refused-read bytes on free nz), (sym (refused-on bytes on free nz), sym (refused-free bytes on free nz)))
 
 -- Past the test nothing is refused.
 accepted : (c : tie.Else1)
