@@ -5,3 +5,4 @@ pub mod Reports
 pub mod Demand2
 pub mod Demand3
 pub mod Examples
+pub mod Rooms

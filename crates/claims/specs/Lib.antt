@@ -2,3 +2,4 @@
 -- Read in this order. The theorems stand in proofs/, under the same headings.
 pub mod Demand1
 pub mod Demand2
+pub mod Rooms

@@ -1,9 +1,9 @@
 -- Laws of specs.Answer: what is written for a text is known by its first bytes, and by what the call of crate `pla` answers.
 use mathlib.Core.Path.{_≡_, refl, sym, ap, _∙_, subst}
 use mathlib.Core.Logic.{_≢_}
-use mathlib.Core.List.{List, []}
+use mathlib.Core.List.{List}
 use Prim.Native.Nat.{ℕ, _-_, _≤_, _<_}
-use native.Mathlib.Decide.{ℕ-discrete, decLt}
+use native.Mathlib.Decide.{decLt}
 use native.Mathlib.Omega.{arith}
 use lib.ListN.{length, take, drop}
 use lib.Seq.{take-at, take-all, length-take-le}
@@ -17,9 +17,9 @@ use Rattle.text.proofs.Writing.{wrote-part}
 use Rattle.pla_lines.specs.Reading.{Gathered, readText}
 use Rattle.pla.specs.declared.PlaRead.{PlaRead}
 use Rattle.pla.specs.Answer.{tableFound, textTests, acceptedPla, refusedPla, plaAnswer, plaAfter}
-use Rattle.pla.proofs.Answering.{found-fits, pla-roomy}
+use Rattle.pla.proofs.Answering.{pla-roomy}
 use Rattle.pla_to_table.specs.declared.Lengths.{Lengths}
-use Rattle.pla_to_table.specs.Messages.{messageRoom, tooLong, refusedMessage}
+use Rattle.pla_to_table.specs.Messages.{tooLong, refusedMessage}
 use Rattle.pla_to_table.specs.Answer.{maxText, inputRoom, StartOf, Written, onlyTable, onlyMessage, writtenFor, written, Stands}
 
 -- ---- a text by its first bytes
