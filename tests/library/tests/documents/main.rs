@@ -3,7 +3,8 @@
 //! named beside them (`proved`, `specification`), names in running text somewhere
 //! (`prose`), calls and refusal numbers are those of the code and of the header
 //! (`calls`), every crate has its row (`crates`), and files exist (`files`). So do
-//! the theorems that comments of the crates quote (`comments`).
+//! the theorems that comments of the crates quote (`comments`). Rooms that suffice
+//! are proved to be those of the header and of the Rust package (`rooms`).
 //!
 //! Every check returns what it finds wrong, so that it can be tried on a document
 //! with a mistake in it: misspelt, each name that a check reads is found.
@@ -17,4 +18,5 @@ mod crates;
 mod files;
 mod prose;
 mod proved;
+mod rooms;
 mod specification;
