@@ -7,12 +7,8 @@ use Rattle.stored.specs.Layout.{longestTable}
 use Rattle.report.specs.Report.{reportText}
 
 -- How many bytes are read at most: one more than the longest table has, so that a longer input is seen as one.
-abbrev pub inputRoom : ℕ
-inputRoom = longestTable + 1
-
--- The first `count` bytes of the room are the whole input, or as much of it as is read.
-abbrev pub StartOf : List ℕ → List ℕ → ℕ → Type 0
-StartOf whole room count = take count room ≡ take inputRoom whole
+abbrev pub storedRoom : ℕ
+storedRoom = longestTable + 1
 
 -- The first `count` bytes of the text are the report of the whole input, and all of it.
 pub record WholeReport (whole text : List ℕ) (count : ℕ) : Type 0 where

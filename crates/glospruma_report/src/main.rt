@@ -7,14 +7,15 @@ ghost use mathlib.Core.List.{List};
 ghost use Prim.Native.Nat.{ℕ, _≤_};
 ghost use lib.ListN.{length};
 ghost use Rattle.report.specs.Answer.{textRoom};
-ghost use Rattle.glospruma_report.specs.Printing.{inputRoom, StartOf, WholeReport};
+ghost use Rattle.streams.specs.Reading.{StartOf};
+ghost use Rattle.glospruma_report.specs.Printing.{storedRoom, WholeReport};
 
-// One byte more than the longest table: a longer input isn't laid out as a table, whatever follows. As `inputRoom` in specs/.
-const INPUT_ROOM: usize = stored::LONGEST_TABLE + 1;
+// One byte more than the longest table: a longer input isn't laid out as a table, whatever follows. As `storedRoom` in specs/.
+const STORED_ROOM: usize = stored::LONGEST_TABLE + 1;
 
 // The report of an input that starts with the first `count` bytes of the room for it, into the room for the text; how many bytes it has.
 fn report_of(input: &[u8], count: usize, text: &mut [u8]) -> usize
-    requires { ⌜ length (now input) ≡ inputRoom ⌝ }
+    requires { ⌜ length (now input) ≡ storedRoom ⌝ }
     requires { ⌜ count ≤ length (now input) ⌝ }
     requires { ⌜ length (now text) ≡ textRoom ⌝ }
     ensures { λ r. ⌜ ((whole : List ℕ) → StartOf whole (now (input .entry)) count → WholeReport whole (now (text .exit)) r) ⌝ }
@@ -25,7 +26,7 @@ fn report_of(input: &[u8], count: usize, text: &mut [u8]) -> usize
 }
 
 fn main() {
-    let mut input = [0u8; INPUT_ROOM];
+    let mut input = [0u8; STORED_ROOM];
     let Input::Bytes(count) = streams::read_input(&mut input) else {
         return;
     };

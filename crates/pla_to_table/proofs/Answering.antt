@@ -12,6 +12,7 @@ use Rattle.table.specs.Refusal.{firstFault}
 use Rattle.table.specs.Decision.{front}
 use Rattle.table.proofs.Decide.{decide-accepted, decide-refused, decide-number}
 use Rattle.stored.specs.Layout.{longestTable}
+use Rattle.streams.specs.Reading.{StartOf}
 use Rattle.text.specs.Writing.{Wrote}
 use Rattle.text.proofs.Writing.{wrote-part}
 use Rattle.pla_lines.specs.Reading.{Gathered, readText}
@@ -20,7 +21,7 @@ use Rattle.pla.specs.Answer.{tableFound, textTests, acceptedPla, refusedPla, pl
 use Rattle.pla.proofs.Answering.{pla-roomy}
 use Rattle.pla_to_table.specs.declared.Lengths.{Lengths}
 use Rattle.pla_to_table.specs.Messages.{tooLong, refusedMessage}
-use Rattle.pla_to_table.specs.Answer.{maxText, inputRoom, StartOf, Written, onlyTable, onlyMessage, writtenFor, written, Stands}
+use Rattle.pla_to_table.specs.Answer.{maxText, plaRoom, Written, onlyTable, onlyMessage, writtenFor, written, Stands}
 
 -- ---- a text by its first bytes
 
@@ -32,20 +33,20 @@ pub written-short : (text : List ℕ) (output : ℕ) → length text ≤ maxText
 unfolding written
 written-short text output h = rw (le-ltb maxText (length text) h)
 
-pub written-start : (text : List ℕ) (output : ℕ) → written (take inputRoom text) output ≡ written text output
+pub written-start : (text : List ℕ) (output : ℕ) → written (take plaRoom text) output ≡ written text output
 written-start text output = go (decLt maxText (length text))
   where
-    go : Dec (maxText < length text) → written (take inputRoom text) output ≡ written text output
+    go : Dec (maxText < length text) → written (take plaRoom text) output ≡ written text output
     go (yes h) =
-        let n : length (take inputRoom text) ≡ inputRoom = length-take-le inputRoom text (omega arith) in
-        written-long (take inputRoom text) output (omega arith) ∙ sym (written-long text output h)
-    go (no h) = ap (λ (t : List ℕ). written t output) (take-all inputRoom text (omega arith))
+        let n : length (take plaRoom text) ≡ plaRoom = length-take-le plaRoom text (omega arith) in
+        written-long (take plaRoom text) output (omega arith) ∙ sym (written-long text output h)
+    go (no h) = ap (λ (t : List ℕ). written t output) (take-all plaRoom text (omega arith))
 
 -- What stands for the bytes that were read stands for the whole text.
-pub stands-whole : (input table message : List ℕ) (count output : ℕ) (lengths : Lengths) → Stands (written (take count input) output) table message lengths
+pub stands-whole : (input table message : List ℕ) (count output : ℕ) (lengths : Lengths) → length input ≡ plaRoom → Stands (written (take count input) output) table message lengths
     → (whole : List ℕ) → StartOf whole input count → Stands (written whole output) table message lengths
-stands-whole input table message count output lengths s whole start =
-    subst (λ (w : Written). Stands w table message lengths) (ap (λ (t : List ℕ). written t output) start ∙ written-start whole output) s
+stands-whole input table message count output lengths all s whole start =
+    subst (λ (w : Written). Stands w table message lengths) (ap (λ (t : List ℕ). written t output) (start ∙ ap (λ (k : ℕ). take k whole) all) ∙ written-start whole output) s
 
 -- ---- a message alone, or a table alone
 

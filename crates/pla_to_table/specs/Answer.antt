@@ -15,12 +15,8 @@ use Rattle.pla_to_table.specs.Messages.{tooLong, refusedMessage}
 abbrev pub maxText : ℕ
 maxText = 1048576
 
-abbrev pub inputRoom : ℕ
-inputRoom = maxText + 1
-
--- The first `count` bytes of the room are the whole text, or as much of it as is read.
-abbrev pub StartOf : List ℕ → List ℕ → ℕ → Type 0
-StartOf whole room count = take count room ≡ take inputRoom whole
+abbrev pub plaRoom : ℕ
+plaRoom = maxText + 1
 
 -- What goes to standard output, and what to standard error.
 pub record Written : Type 0 where

@@ -6,16 +6,17 @@ ghost use mathlib.Core.List.{List};
 ghost use Prim.Native.Nat.{ℕ, _≤_};
 ghost use lib.ListN.{length};
 ghost use Rattle.stored.specs.Layout.{longestTable};
+ghost use Rattle.streams.specs.Reading.{StartOf};
 ghost use Rattle.text.specs.Writing.{Wrote};
 ghost use Rattle.pla_to_table.specs.Choosing.{chosenOutput};
 ghost use Rattle.pla_to_table.specs.Messages.{messageRoom, refusedMessage};
-ghost use Rattle.pla_to_table.specs.Answer.{inputRoom, StartOf, written, Stands};
+ghost use Rattle.pla_to_table.specs.Answer.{plaRoom, written, Stands};
 use streams::Input;
 
 // The longest text that is read, and one byte more, by which a longer one is known.
 const MAX_TEXT: usize = 1_048_576;
 
-const INPUT_ROOM: usize = MAX_TEXT + 1;
+const PLA_ROOM: usize = MAX_TEXT + 1;
 
 // Room for every message.
 const MESSAGE_ROOM: usize = 38;
@@ -30,10 +31,10 @@ struct Lengths {
 }
 
 // Room for a text. The contract gives only the length, which lending the array needs.
-fn text_room() -> [u8; INPUT_ROOM]
-    ensures { λ r. ⌜ inputRoom ≡ length r ⌝ }
+fn text_room() -> [u8; PLA_ROOM]
+    ensures { λ r. ⌜ plaRoom ≡ length r ⌝ }
 {
-    [0; INPUT_ROOM]
+    [0; PLA_ROOM]
 }
 
 // Room for the longest stored table.
@@ -74,7 +75,7 @@ fn answer_text(
     table: &mut [u8],
     message: &mut [u8],
 ) -> Lengths
-    requires { ⌜ length (now input) ≡ inputRoom ⌝ }
+    requires { ⌜ length (now input) ≡ plaRoom ⌝ }
     requires { ⌜ count ≤ length (now input) ⌝ }
     requires { ⌜ length (now table) ≡ longestTable ⌝ }
     requires { ⌜ length (now message) ≡ messageRoom ⌝ }

@@ -3,7 +3,7 @@
 use libc::STDERR_FILENO;
 use libc::STDIN_FILENO;
 use libc::STDOUT_FILENO;
-ghost use Rattle.streams.specs.Reading.{Within};
+ghost use Rattle.streams.specs.Reading.{ReadInto};
 
 // What reading gave: how many bytes stand at the front of the room, or that a read failed.
 pub enum Input {
@@ -13,7 +13,7 @@ pub enum Input {
 
 // Reads standard input to the front of the room, until it ends or the room is full. A read that fails is said on standard error.
 pub fn read_input(room: &mut [u8]) -> Input
-    ensures { λ r. ⌜ Within r (now (room .exit)) ⌝ }
+    ensures { λ r. ⌜ ReadInto r (now (room .exit)) ⌝ }
 {
     let mut count = 0;
     while count < room.len() {

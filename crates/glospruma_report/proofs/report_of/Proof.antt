@@ -20,7 +20,7 @@ returns : tie.Need-returns
 returns c =
     let s = c .before .before .before .before .before .before .before in
     let w = c .before .before .write-report in
-    (whole-report (s .args .input .now) _ _ (s .args .count) (w .result) (s .pre .1 .1) (w .ensures .0) (w .ensures .1), answer-fits _ _ (w .result) _ (w .ensures .0) (w .ensures .1))
+    (whole-report (s .args .input .now) _ _ (s .args .count) (w .result) (s .pre .0) (s .pre .1 .1) (w .ensures .0) (w .ensures .1), answer-fits _ _ (w .result) _ (w .ensures .0) (w .ensures .1))
 
 pub report-of-spec : {M : Type 1} → statement M
 report-of-spec = tie.close (tie.spec slice-aggregate-write-report write-report-requires same-length returns)

@@ -29,7 +29,7 @@ returns c =
     let read : length start ≡ s .args .count = length-take-le _ _ (s .pre .1 .0) in
     let long : maxText < length start = omega (arith, read, c .before .before .before .before .before .if1 .taken) in
     let stands = stands-message (written-long start (s .args .output) long) (omega (arith, s .pre .1 .1 .1)) (w .ensures) in
-    (stands-whole (s .args .input .now) _ _ (s .args .count) (s .args .output) _ stands, (omega arith, omega (arith, w .ensures .place, wrote-length (w .ensures), s .pre .1 .1 .1)))
+    (stands-whole (s .args .input .now) _ _ (s .args .count) (s .args .output) _ (s .pre .0) stands, (omega arith, omega (arith, w .ensures .place, wrote-length (w .ensures), s .pre .1 .1 .1)))
 
 slice-aggregate-read-pla : tie.Need-slice-aggregate-read-pla
 slice-aggregate-read-pla c = sym (length-take-le _ _ (c .before .before .before .before .before .pre .1 .0))
@@ -56,7 +56,7 @@ returns-2 c =
     let short : length start ≤ maxText = omega (arith, read, c .before .before .before .before .before .before .before .before .before .before .before .if1 .left) in
     let said = written-refused start (s .args .output) _ _ (p .result) short (s .pre .1 .1 .0) (p .ensures .0) (p .ensures .1) (c .before .before .before .before .if2 .taken) in
     let stands = stands-message said (omega (arith, w .ensures .0 .place, w .ensures .1, wrote-length (w .ensures .0))) (w .ensures .0) in
-    (stands-whole (s .args .input .now) _ _ (s .args .count) (s .args .output) _ stands, (omega arith, w .ensures .1))
+    (stands-whole (s .args .input .now) _ _ (s .args .count) (s .args .output) _ (s .pre .0) stands, (omega arith, w .ensures .1))
 
 same-length-4 : tie.Need-same-length-4
 same-length-4 c = search needs
@@ -71,7 +71,7 @@ returns-3 c =
     let kept : length (p .last .1 .1 .0) ≡ length (s .args .table .now) = search needs in
     let stands = stands-table start (s .args .output) _ _ (p .result) short (s .pre .1 .1 .0) (p .ensures .0) (p .ensures .1) _ (c .if2 .left) in
     let fits : p .result .length ≤ length (s .args .table .now) = rw (p .ensures .0) (pla-length _ _ _) in
-    (stands-whole (s .args .input .now) _ _ (s .args .count) (s .args .output) _ stands, (omega (arith, fits, kept), omega arith))
+    (stands-whole (s .args .input .now) _ _ (s .args .count) (s .args .output) _ (s .pre .0) stands, (omega (arith, fits, kept), omega arith))
 
 pub answer-text-spec : {M : Type 1} → statement M
 answer-text-spec =
