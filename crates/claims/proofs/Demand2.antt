@@ -42,7 +42,7 @@ use Rattle.writing.proofs.Answers.{none-first, size-first, write-ways}
 use Rattle.analysis.specs.declared.LinearSpace.{LinearSpace}
 use Rattle.analysis.specs.declared.Completion.{Completion}
 use Rattle.analysis.specs.declared.Analysis.{Analysis}
-use Rattle.analysis.specs.Spaces.{completedSpace, completedRestriction, completeAccepted, analyseAccepted, linearSpaceAnswer, linearSpaceAccepted}
+use Rattle.analysis.specs.Spaces.{completedRestriction, completeAccepted, analyseAccepted, linearSpaceAnswer, linearSpaceAccepted}
 use Rattle.claims.specs.Demand2.{RoomsLent, Reported, reported, formRoom, isOn, CompleteSays, SpaceSays, AnalyseSays, FormSays, Demand2}
 use Rattle.claims.proofs.FormBytes.{written-valid, written-fits, bytes-decoded, bytes-accepted, bytes-points, bytes-again}
 use Rattle.claims.proofs.Reports.{Gave, complete-gave, complete-table, analyse-gave, write-gave, write-small, points-gave, rewrite-gave, space-gave, selected-accepted, selected-space}

@@ -5,6 +5,7 @@ use mathlib.Core.Bool.{false}
 use mathlib.Core.Logic.{inl, inr}
 use mathlib.Core.List.{List, [], _∷_}
 use Prim.Native.Nat.{ℕ, _+_, _-_, _*_, _^_, _≤_}
+use native.Mathlib.Nat.{mul-suc}
 use native.Mathlib.Omega.{arith}
 use lib.ListN.{length, length-append}
 use borrow.Author.Tests.{ltb-false}
@@ -32,11 +33,13 @@ use Rattle.claims.specs.Demand2.{formRoom}
 
 -- ---- how long a form is
 
-products-length : (ps : List (List Factor)) → ((p : List Factor) → Mem p ps → length p ≤ maxListed) → length (encodeProducts ps) ≤ (1 + 4 * maxListed) * length ps
+-- Products of at most so many factors.
+pub products-length : (k : ℕ) (ps : List (List Factor)) → ((p : List Factor) → Mem p ps → length p ≤ k) → length (encodeProducts ps) ≤ (1 + 4 * k) * length ps
 unfolding encodeProducts
-products-length [] h = omega arith
-products-length (p ∷ ps) h =
-    omega (arith, length-append (encodeFactors p) (encodeProducts ps), factors-length p, h p (inl refl), products-length ps (λ q m. h q (inr m)))
+products-length k [] h = omega arith
+products-length k (p ∷ ps) h =
+    let more = mul-suc (1 + 4 * k) (length ps) in
+    omega (arith, more, length-append (encodeFactors p) (encodeProducts ps), factors-length p, h p (inl refl), products-length k ps (λ q m. h q (inr m)))
 
 -- ---- the form written for a table
 
@@ -71,7 +74,7 @@ module _ (n : ℕ) (on free : List ℕ) (a : Accepted n on free) (small : formSi
       omega (
         arith,
         length-append (encodeProducts (writtenForm n on free)) (encodeEnd (length (writtenForm n on free))),
-        products-length (writtenForm n on free) six,
+        products-length maxListed (writtenForm n on free) six,
         table-form-few n on free small,
       )
 

@@ -19,7 +19,7 @@ use Rattle.space.specs.Completion.{allOn, completedPoints}
 use Rattle.space.specs.Restriction.{equations, values}
 use Rattle.form.specs.declared.FormPoints.{FormPoints}
 use Rattle.form.specs.declared.FormRewrite.{FormRewrite}
-use Rattle.form.specs.Form.{Form, ValidForm, formAt}
+use Rattle.form.specs.Form.{ValidForm, formAt}
 use Rattle.form.specs.Decoding.{decodeForm}
 use Rattle.form.specs.Reading.{pointsAnswer, pointsAfter, rewriteAnswer, rewriteAfter}
 use Rattle.cubes.specs.Records.{maxListed}

@@ -1,5 +1,6 @@
--- What is claimed of the whole library (document 01, "How tight the statements must be"), one record for each demand.
--- Read in this order. The theorems stand in proofs/, under the same headings.
+-- What is claimed of the whole library (document 01, "How tight the statements must be"): one record for each demand, and one for the rooms that always
+-- suffice. Read in this order. The theorems stand in proofs/, under the same headings.
 pub mod Demand1
 pub mod Demand2
 pub mod Demand3
+pub mod Rooms

@@ -14,12 +14,13 @@ use Rattle.gf2.specs.Limits.{maxVariables}
 use Rattle.gf2.specs.Finite.{holds}
 use Rattle.gf2.proofs.Finite.{append-mem}
 use Rattle.table.specs.Refusal.{Test, firstFault, Numbered, Exact, roomFault}
-use Rattle.table.specs.Decision.{front, roomTest}
+use Rattle.table.specs.Decision.{decide, front, roomAfter, roomTest}
 use Rattle.table.proofs.Refusal.{numbered}
-use Rattle.table.proofs.Decide.{decide-exact, call-refused, call-short, call-accepted}
-use Rattle.stored.specs.Layout.{tableLength}
+use Rattle.table.proofs.Decide.{decide-accepted, decide-refused, decide-exact, call-refused, call-short, call-accepted}
+use Rattle.stored.specs.Layout.{tableLength, longestTable}
 use Rattle.stored.specs.Encoding.{encodeTable}
 use Rattle.pla_cubes.specs.Cubes.{Row}
+use Rattle.pla_cubes.specs.Meaning.{onAt, freeAt}
 use Rattle.pla_cubes.specs.Flagging.{Flagged}
 use Rattle.pla_cubes.specs.declared.Flags.{Flags}
 use Rattle.pla_lines.specs.declared.Head.{Head}
@@ -79,6 +80,34 @@ module _ (text : List ℕ) (output : ℕ) (room : List ℕ) where
       → (acceptedPla f ≡ plaAnswer text output room) × (front (tableFound f) room ≡ plaAfter text output room)
   unfolding plaAnswer plaAfter
   pla-accepted = call-accepted (textTests output f) (tableFound f) room (acceptedPla f) (refusedPla f) (text-numbered output f)
+
+-- ---- a room for the longest table
+
+-- The stored table of what was found is never longer than the longest table.
+pub found-fits : (output : ℕ) (text : List ℕ) → length (tableFound (readText output text)) ≤ longestTable
+unfolding storedTable
+found-fits output text =
+    let f = readText output text in
+    let marks = marksOf (f .head .kind) (f .head .variables) (f .rows) in
+    omega (arith, table-length (f .head .variables) marks, marks-few (onAt (f .rows)) (freeAt (f .head .kind) (f .rows)) (2 ^ f .head .variables), pow-mono (text-bounded output text))
+
+-- So where the room has as many bytes, the tests of the text alone decide.
+pub pla-roomy : (text : List ℕ) (output : ℕ) (room : List ℕ) → longestTable ≤ length room
+    → (plaAnswer text output room ≡ decide (textTests output (readText output text)) (acceptedPla (readText output text)) (refusedPla (readText output text)))
+    × (plaAfter text output room ≡ roomAfter (textTests output (readText output text)) (tableFound (readText output text)) room)
+pla-roomy text output room h = go (ℕ-discrete (firstFault (textTests output (readText output text))) 0)
+  where
+    go : Dec (firstFault (textTests output (readText output text)) ≡ 0)
+        → (plaAnswer text output room ≡ decide (textTests output (readText output text)) (acceptedPla (readText output text)) (refusedPla (readText output text)))
+        × (plaAfter text output room ≡ roomAfter (textTests output (readText output text)) (tableFound (readText output text)) room)
+    go (yes z) = let k = pla-accepted text output room z (omega (arith, found-fits output text)) in (
+      sym (k .0) ∙ sym (decide-accepted (textTests output (readText output text)) (acceptedPla (readText output text)) (refusedPla (readText output text)) z),
+      sym (k .1) ∙ sym (decide-accepted (textTests output (readText output text)) (front (tableFound (readText output text)) room) (λ number. room) z),
+    )
+    go (no n) = let k = pla-refused text output room _ refl n in (
+      sym (k .0) ∙ sym (decide-refused (textTests output (readText output text)) (acceptedPla (readText output text)) (refusedPla (readText output text)) _ n refl),
+      sym (k .1) ∙ sym (decide-refused (textTests output (readText output text)) (front (tableFound (readText output text)) room) (λ number. room) _ n refl),
+    )
 
 -- ---- what the code has read
 

@@ -109,11 +109,15 @@ module _ (text : List ℕ) (output from : ℕ) (inside : from ≤ length text) (
       let whole = sym so-far ∙ ap (readFrom output number head rows) (first .1) ∙ stop in
       rw whole agrees
 
-  pub finished : r .fault ≡ 0 → end ≡ length text → GatheredBy r (readText output text)
-  finished z e =
-      let last = read-last output number head rows line (sym (agrees .fault) ∙ z) in
-      let whole = sym so-far ∙ ap (readFrom output number head rows) (last-line text from inside end ended e) ∙ last in
-      rw whole agrees
+  pub finished : end ≡ length text → GatheredBy r (readText output text)
+  finished e = go (ℕ-discrete (r .fault) 0)
+    where
+      go : Dec (r .fault ≡ 0) → GatheredBy r (readText output text)
+      go (no n) = stopped n
+      go (yes z) =
+          let last = read-last output number head rows line (sym (agrees .fault) ∙ z) in
+          let whole = sym so-far ∙ ap (readFrom output number head rows) (last-line text from inside end ended e) ∙ last in
+          rw whole agrees
 
   pub going : Bounded head number → r .fault ≡ 0 → end < length text
       → Bounded (r .head) (number + 1) × ((rows₁ : List Row) × Flagged (r .flags) rows₁ × (readFrom output (number + 1) (r .head) rows₁ (linesOf (drop (end + 1) text)) ≡ readText output text))

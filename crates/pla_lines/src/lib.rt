@@ -288,11 +288,11 @@ pub fn read_lines(text: &[u8], output: usize) -> Reading
     let mut from = 0;
     loop {
         let end = pla_text::run_end(text, from, Stop::Newline);
+        if end == text.len() {
+            return read_line(&text[from..end], number, output, head, flags);
+        }
         let reading = read_line(&text[from..end], number, output, head, flags);
         if reading.fault != 0 {
-            return reading;
-        }
-        if end == text.len() {
             return reading;
         }
         head = reading.head;

@@ -3,30 +3,31 @@
 use mathlib.Core.Path.{_≡_, refl, sym, ap, _∙_}
 use mathlib.Core.Bool.{Bool, true, false, cond}
 use mathlib.Core.Logic.{_≢_}
-use mathlib.Core.List.{List, [], _∷_, _++_}
+use mathlib.Core.List.{List, [], _∷_}
 use Prim.Native.Nat.{ℕ, _+_, _-_, _^_, _≤_, _<_}
 use native.Mathlib.Decide.{ℕ-discrete, decLt}
 use native.Mathlib.Omega.{arith}
 use lib.Dec.{ltb}
 use lib.Pow.{pow-mono}
 use lib.ListN.{length, take, drop}
-use lib.Seq.{sets-eq, take-at}
+use lib.Seq.{take-at, take-all, length-take-le}
 use borrow.Author.Tests.{le-ltb}
 use Rattle.gf2.proofs.Finite.{rising-length}
-use Rattle.table.specs.Refusal.{Test, firstFault, roomFault}
+use Rattle.table.specs.Refusal.{Test, firstFault, roomFault, layoutFault}
 use Rattle.table.specs.Decision.{front}
 use Rattle.table.specs.Table.{Accepted}
 use Rattle.table.specs.Flags.{maxPoints}
 use Rattle.table.proofs.Fill.{fill-length}
 use Rattle.table.proofs.Decide.{decide-accepted, decide-refused, call-short, call-accepted}
 use Rattle.stored.specs.declared.TableRead.{TableRead}
+use Rattle.stored.specs.Layout.{longestTable}
 use Rattle.stored.specs.Marks.{storedVariables, storedOn, storedFree}
 use Rattle.stored.specs.Stored.{storedTests, storedFault}
 use Rattle.stored.specs.Reading.{readFault, readAccepted, readAnswer, readOnAfter, readFreeAfter}
+use Rattle.stored.proofs.Laying.{too-long}
 use Rattle.stored.proofs.Accepting.{stored-accepted}
 use Rattle.stored.proofs.Rooms.{stored-first, then-room, refused-read, accepted-read, accepted-on, accepted-free}
-use Rattle.text.specs.Writing.{HasRoom, Wrote}
-use Rattle.text.proofs.Writing.{wrote-length}
+use Rattle.text.specs.Writing.{HasRoom}
 use Rattle.report.specs.declared.ReportWritten.{ReportWritten}
 use Rattle.table_report.specs.Text.{refusedLine, tableText}
 use Rattle.table_report.proofs.Fitting.{refused-fits, table-fits}
@@ -72,6 +73,20 @@ report-long bytes room e = omega (arith, report-fits bytes)
 
 pub report-room : (bytes room : List ℕ) → length room ≡ textRoom → HasRoom room 0 (reportText bytes)
 report-room bytes room e = record { fits = omega (arith, report-long bytes room e) }
+
+-- An input longer than the longest table is refused, whatever it holds; so its first bytes, one more than that table has, have its report.
+pub report-beyond : (bytes : List ℕ) → longestTable < length bytes → reportText bytes ≡ refusedLine layoutFault
+unfolding reportText firstFault
+report-beyond bytes h = rw (too-long bytes h)
+
+pub report-start : (bytes : List ℕ) → reportText (take (longestTable + 1) bytes) ≡ reportText bytes
+report-start bytes = go (decLt longestTable (length bytes))
+  where
+    go : Dec (longestTable < length bytes) → reportText (take (longestTable + 1) bytes) ≡ reportText bytes
+    go (yes h) =
+        let n : length (take (longestTable + 1) bytes) ≡ longestTable + 1 = length-take-le (longestTable + 1) bytes (omega arith) in
+        report-beyond (take (longestTable + 1) bytes) (omega arith) ∙ sym (report-beyond bytes h)
+    go (no h) = ap reportText (take-all (longestTable + 1) bytes (omega arith))
 
 -- The lists of a table without fault fit into rooms for every point.
 stored-few : (bytes : List ℕ) → storedFault bytes ≡ 0 → (length (storedOn bytes) ≤ maxPoints) × (length (storedFree bytes) ≤ maxPoints)
@@ -167,22 +182,6 @@ module _ (bytes on free : List ℕ) (onRoom : length on ≡ maxPoints) (freeRoom
               fill-length (storedFree bytes) free (omega (arith, stored-few bytes read-fault .1)),
               stored-few bytes read-fault .1,
             )
-
--- ---- a text at the front of lent bytes
-
-module _ {before text after : List ℕ} {next : ℕ} (h : length text ≤ length before) (w : Wrote before 0 text after next) where
-  pub wrote-front : after ≡ front text before
-  wrote-front =
-      let z : 0 + length text ≡ length text = omega arith in
-      w .bytes ∙ sets-eq text before 0 (omega arith) ∙ ap (λ (k : ℕ). text ++ drop k before) z
-
-  pub wrote-fits : next ≤ length after
-  wrote-fits = omega (arith, w .place, wrote-length w)
-
-  pub wrote-part : take (next - 0) after ≡ text
-  wrote-part =
-      let n : length text ≡ next - 0 = omega (arith, w .place) in
-      rw wrote-front (take-at text (drop (length text) before) (next - 0) n)
 
 -- ---- the answer and the room
 

@@ -1,12 +1,13 @@
 -- Texts written one after the other (specs.Writing). Every function that writes a text of several parts cites these.
 use mathlib.Core.Path.{_≡_, refl, sym, ap, _∙_, subst}
 use mathlib.Core.List.{List, [], _∷_, _++_}
-use Prim.Native.Nat.{ℕ, _+_, _<_}
+use Prim.Native.Nat.{ℕ, _+_, _-_, _≤_, _<_}
 use native.Mathlib.Nat.{add-zero}
 use native.Mathlib.Numerals.{add-one}
 use native.Mathlib.Omega.{arith}
-use lib.ListN.{length, take, set, getD, length-append}
-use lib.Seq.{sets, length-sets, take-suc, length-take-le}
+use lib.ListN.{length, take, drop, set, getD, length-append}
+use lib.Seq.{sets, sets-eq, length-sets, take-suc, take-at, length-take-le}
+use Rattle.table.specs.Decision.{front}
 use Rattle.table.proofs.Fill.{sets-append}
 use Rattle.text.specs.Writing.{HasRoom, Wrote}
 use Rattle.text.proofs.Pieces.{pieces, pieces-part}
@@ -70,3 +71,19 @@ wrote-piece piece i w v = wrote-same (ap (pieces piece) (sym (add-one i))) (wrot
 
 pub wrote-pieces : {before : List ℕ} {at : ℕ} (piece : ℕ → List ℕ) (i k : ℕ) {text after : List ℕ} {next : ℕ} → text ≡ pieces piece k → i ≡ k → Wrote before at (pieces piece i) after next → Wrote before at text after next
 wrote-pieces piece i k e q w = wrote-same (ap (pieces piece) q ∙ sym e) w
+
+-- ---- a text at the front of lent bytes
+
+module _ {before text after : List ℕ} {next : ℕ} (h : length text ≤ length before) (w : Wrote before 0 text after next) where
+  pub wrote-front : after ≡ front text before
+  wrote-front =
+      let z : 0 + length text ≡ length text = omega arith in
+      w .bytes ∙ sets-eq text before 0 (omega arith) ∙ ap (λ (k : ℕ). text ++ drop k before) z
+
+  pub wrote-fits : next ≤ length after
+  wrote-fits = omega (arith, w .place, wrote-length w)
+
+  pub wrote-part : take (next - 0) after ≡ text
+  wrote-part =
+      let n : length text ≡ next - 0 = omega (arith, w .place) in
+      rw wrote-front (take-at text (drop (length text) before) (next - 0) n)

@@ -1,56 +1,64 @@
--- `glospruma_report::main` is safe: no more bytes are printed than the room has. Assumes nothing.
+-- `glospruma_report::main` is safe, and what it calls gets what it asks for: the input lies in its room, and the room for the text is that of every report.
+-- Assumes nothing.
 use mathlib.Core.Path.{sym}
-use borrow.Author.Needs.{needs}
 use lib.Seq.{length-take-le}
-use Rattle.report.proofs.Answering.{answer-fits}
+use Rattle.streams.proofs.Reading.{read-within}
+use borrow.Author.Needs.{needs}
 use Rattle.glospruma_report.proofs.main.Statement.{statement}
 use Rattle.glospruma_report.proofs.main.Tie as tie
 
-slice-aggregate-read-full : tie.Need-slice-aggregate-read-full
-slice-aggregate-read-full c = search needs
+slice-aggregate-read-input : tie.Need-slice-aggregate-read-input
+slice-aggregate-read-input c = search needs
 
-read-full-requires : tie.Need-read-full-requires
-read-full-requires c κs = search needs
+read-input-requires : tie.Need-read-input-requires
+read-input-requires c κs = search needs
 
-array-share-prefix-input : tie.Need-array-share-prefix-input
-array-share-prefix-input c = search needs
+enum-known-count : tie.Need-enum-known-count
+enum-known-count c = search needs
 
-slice-aggregate-write-report : tie.Need-slice-aggregate-write-report
-slice-aggregate-write-report c = search needs
-
-slice-aggregate-write-report-2 : tie.Need-slice-aggregate-write-report-2
-slice-aggregate-write-report-2 c = search needs
-
-write-report-requires : tie.Need-write-report-requires
-write-report-requires c κs = search needs
-
-array-share-prefix-output : tie.Need-array-share-prefix-output
-array-share-prefix-output c =
-    let w = c .before .write-report in
-    answer-fits _ _ (w .result) (w .last .1 .0) (w .ensures .0) (w .ensures .1)
-
-slice-aggregate-write-all : tie.Need-slice-aggregate-write-all
-slice-aggregate-write-all c =
-    let w = c .before .before .write-report in
-    sym (length-take-le (w .result .length) (w .last .1 .0) (answer-fits _ _ (w .result) (w .last .1 .0) (w .ensures .0) (w .ensures .1)))
-
-write-all-requires : tie.Need-write-all-requires
-write-all-requires c κs = search needs
+enum-told : tie.Need-enum-told
+enum-told c = search needs
 
 returns : tie.Need-returns
 returns c = search needs
+
+slice-aggregate-report-of : tie.Need-slice-aggregate-report-of
+slice-aggregate-report-of c = search needs
+
+slice-aggregate-report-of-2 : tie.Need-slice-aggregate-report-of-2
+slice-aggregate-report-of-2 c = search needs
+
+report-of-requires : tie.Need-report-of-requires
+report-of-requires c κs =
+    let r = c .before .before .before .before .before .before in
+    let inside = read-within _ _ (r .read-input .ensures) (c .before .before .before .count .given .1) in
+    (search needs, (inside, search needs))
+
+array-share-prefix-text : tie.Need-array-share-prefix-text
+array-share-prefix-text c = search needs
+
+slice-aggregate-print : tie.Need-slice-aggregate-print
+slice-aggregate-print c = sym (length-take-le _ _ (c .before .before .report-of .ensures .1))
+
+print-requires : tie.Need-print-requires
+print-requires c κs = search needs
+
+returns-2 : tie.Need-returns-2
+returns-2 c = search needs
 
 pub main-spec : {M : Type 1} → statement M
 main-spec =
     tie.close
     (tie.spec
-    slice-aggregate-read-full
-    read-full-requires
-    array-share-prefix-input
-    slice-aggregate-write-report
-    slice-aggregate-write-report-2
-    write-report-requires
-    array-share-prefix-output
-    slice-aggregate-write-all
-    write-all-requires
-    returns)
+    slice-aggregate-read-input
+    read-input-requires
+    enum-known-count
+    enum-told
+    returns
+    slice-aggregate-report-of
+    slice-aggregate-report-of-2
+    report-of-requires
+    array-share-prefix-text
+    slice-aggregate-print
+    print-requires
+    returns-2)

@@ -38,37 +38,52 @@ part-read-line-start c = search needs
 
 part-read-line-end : tie.Need-part-read-line-end Inv-loop μ-loop
 part-read-line-end c =
-    let loop = c .before .loop in
-    let run-end = c .run-end in
-    line-inside (c .before .before .before .args .text .now) (loop .from) (loop .inv .0) (run-end .result) (run-end .ensures) .1
+    let loop = c .before .before .loop in
+    let run-end = c .before .run-end in
+    line-inside (c .before .before .before .before .args .text .now) (loop .from) (loop .inv .0) (run-end .result) (run-end .ensures) .1
 
 read-line-requires : tie.Need-read-line-requires Inv-loop μ-loop
-read-line-requires c κs = c .before .before .loop .inv .2
+read-line-requires c κs = c .before .before .before .loop .inv .2
 
 returns : tie.Need-returns Inv-loop μ-loop
 returns c =
-    let args = c .before .before .before .before .before .before .before .args in
-    let loop = c .before .before .before .before .before .loop in
-    let run-end = c .before .before .before .before .run-end in
-    let read-line = c .before .before .read-line in
-    stopped (args .text .now) (args .output) (loop .from) (loop .inv .0) (run-end .result) (run-end .ensures) (loop .number) (loop .head) (loop .inv .3 .0) (read-line .result)
-    (read-line .ensures (loop .inv .3 .0) (loop .inv .3 .1)) (loop .inv .3 .2) (c .if1 .taken)
+    let args = c .before .before .before .before .before .before .args in
+    let loop = c .before .before .before .before .loop in
+    let run-end = c .before .before .before .run-end in
+    let read-line = c .read-line in
+    finished (args .text .now) (args .output) (loop .from) (loop .inv .0) (run-end .result) (run-end .ensures) (loop .number) (loop .head) (loop .inv .3 .0) (read-line .result)
+    (read-line .ensures (loop .inv .3 .0) (loop .inv .3 .1)) (loop .inv .3 .2) (c .before .before .if1 .taken)
+
+sub-read-line-2 : tie.Need-sub-read-line-2 Inv-loop μ-loop
+sub-read-line-2 c = search needs
+
+part-read-line-start-2 : tie.Need-part-read-line-start-2 Inv-loop μ-loop
+part-read-line-start-2 c = search needs
+
+part-read-line-end-2 : tie.Need-part-read-line-end-2 Inv-loop μ-loop
+part-read-line-end-2 c =
+    let loop = c .before .before .loop in
+    let run-end = c .before .run-end in
+    line-inside (c .before .before .before .before .args .text .now) (loop .from) (loop .inv .0) (run-end .result) (run-end .ensures) .1
+
+read-line-requires-2 : tie.Need-read-line-requires-2 Inv-loop μ-loop
+read-line-requires-2 c κs = c .before .before .before .loop .inv .2
 
 returns-2 : tie.Need-returns-2 Inv-loop μ-loop
 returns-2 c =
     let args = c .before .before .before .before .before .before .before .before .args in
     let loop = c .before .before .before .before .before .before .loop in
     let run-end = c .before .before .before .before .before .run-end in
-    let read-line = c .before .before .before .read-line in
-    finished (args .text .now) (args .output) (loop .from) (loop .inv .0) (run-end .result) (run-end .ensures) (loop .number) (loop .head) (loop .inv .3 .0) (read-line .result)
-    (read-line .ensures (loop .inv .3 .0) (loop .inv .3 .1)) (loop .inv .3 .2) (c .before .if1 .left) (c .if2 .taken)
+    let read-line = c .before .before .read-line2 in
+    stopped (args .text .now) (args .output) (loop .from) (loop .inv .0) (run-end .result) (run-end .ensures) (loop .number) (loop .head) (loop .inv .3 .0) (read-line .result)
+    (read-line .ensures (loop .inv .3 .0) (loop .inv .3 .1)) (loop .inv .3 .2) (c .if2 .taken)
 
 add-from : tie.Need-add-from Inv-loop μ-loop
 add-from c =
     let args = c .before .before .before .before .before .before .before .before .before .before .args in
     let loop = c .before .before .before .before .before .before .before .before .loop in
     let run-end = c .before .before .before .before .before .before .before .run-end in
-    omega (arith, line-inside (args .text .now) (loop .from) (loop .inv .0) (run-end .result) (run-end .ensures) .1, c .before .before .if2 .left)
+    omega (arith, line-inside (args .text .now) (loop .from) (loop .inv .0) (run-end .result) (run-end .ensures) .1, c .before .before .before .before .before .before .if1 .left)
 
 add-number : tie.Need-add-number Inv-loop μ-loop
 add-number c =
@@ -84,7 +99,7 @@ loop-less c =
       arith,
       line-inside (args .text .now) (loop .from) (loop .inv .0) (run-end .result) (run-end .ensures) .0,
       line-inside (args .text .now) (loop .from) (loop .inv .0) (run-end .result) (run-end .ensures) .1,
-      c .before .before .if2 .left,
+      c .before .before .before .before .before .before .if1 .left,
     )
 
 loop-again : tie.Need-loop-again Inv-loop μ-loop
@@ -92,13 +107,13 @@ loop-again c =
     let args = c .before .before .before .before .before .before .before .before .before .before .args in
     let loop = c .before .before .before .before .before .before .before .before .loop in
     let run-end = c .before .before .before .before .before .before .before .run-end in
-    let read-line = c .before .before .before .before .before .read-line in
-    let if2 = c .before .before .if2 in
+    let read-line = c .before .before .before .before .read-line2 in
+    let if1 = c .before .before .before .before .before .before .if1 in
     let inside = line-inside (args .text .now) (loop .from) (loop .inv .0) (run-end .result) (run-end .ensures) in
     let k = going (args .text .now) (args .output) (loop .from) (loop .inv .0) (run-end .result) (run-end .ensures) (loop .number) (loop .head) (loop .inv .3 .0)
-    (read-line .result) (read-line .ensures (loop .inv .3 .0) (loop .inv .3 .1)) (loop .inv .3 .2) (loop .inv .2) (c .before .before .before .if1 .left)
-    (omega (arith, inside .1, if2 .left)) in
-    (omega (arith, inside .1, if2 .left), omega (arith, inside .0, loop .inv .1), k .0, k .1)
+    (read-line .result) (read-line .ensures (loop .inv .3 .0) (loop .inv .3 .1)) (loop .inv .3 .2) (loop .inv .2) (c .before .before .if2 .left)
+    (omega (arith, inside .1, if1 .left)) in
+    (omega (arith, inside .1, if1 .left), omega (arith, inside .0, loop .inv .1), k .0, k .1)
 
 pub read-lines-spec : {M : Type 1} → statement M
 read-lines-spec =
@@ -113,6 +128,10 @@ read-lines-spec =
     part-read-line-end
     read-line-requires
     returns
+    sub-read-line-2
+    part-read-line-start-2
+    part-read-line-end-2
+    read-line-requires-2
     returns-2
     add-from
     add-number

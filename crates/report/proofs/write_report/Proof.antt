@@ -4,9 +4,9 @@ use Prim.Native.Nat.{ℕ, _≤_}
 use native.Mathlib.Omega.{arith}
 use borrow.Author.Needs.{needs}
 use lib.ListN.{length}
-use Rattle.text.proofs.Writing.{wrote-same}
+use Rattle.text.proofs.Writing.{wrote-same, wrote-front, wrote-fits, wrote-part}
 use Rattle.report.specs.Report.{reportText}
-use Rattle.report.proofs.Answering.{report-room, report-long, report-short, report-accepted, wrote-front, wrote-fits, wrote-part}
+use Rattle.report.proofs.Answering.{report-room, report-long, report-short, report-accepted}
 use Rattle.report.proofs.write_report.Statement.{statement}
 use Rattle.report.proofs.write_report.Tie as tie
 

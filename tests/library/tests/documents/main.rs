@@ -2,8 +2,10 @@
 //! definitions, functions and must-fail edits are defined in the crate or file
 //! named beside them (`proved`, `specification`), names in running text somewhere
 //! (`prose`), calls and refusal numbers are those of the code and of the header
-//! (`calls`), the contracts of the calls are those of demand 1 (`demand`), every crate has its row (`crates`), and files exist (`files`). So do
-//! the theorems that comments of the crates quote (`comments`).
+//! (`calls`), the contracts of the calls are those of demand 1 (`demand`), every
+//! crate has its row (`crates`), and files exist (`files`). So do the theorems that
+//! comments of the crates quote (`comments`). Rooms that suffice are proved to be
+//! those of the header and of the Rust package (`rooms`).
 //!
 //! Every check returns what it finds wrong, so that it can be tried on a document
 //! with a mistake in it: misspelt, each name that a check reads is found.
@@ -18,4 +20,5 @@ mod demand;
 mod files;
 mod prose;
 mod proved;
+mod rooms;
 mod specification;

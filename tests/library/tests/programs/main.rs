@@ -1,10 +1,11 @@
 //! The built programs that the tests run as they stand, one module to a program:
-//! `pla_to_table` is compared with the reference. The report program is run by
-//! .ci/run, on the folder `vectors`. Where programs are looked for is said in
+//! each is compared with the reference. The report program is also run by .ci/run,
+//! on the folder `vectors`. Where programs are looked for is said in
 //! library/src/programs.rs.
 
 #[path = "../calls/tally.rs"]
 mod tally;
 
+mod glospruma_report;
 mod pla_texts;
 mod pla_to_table;

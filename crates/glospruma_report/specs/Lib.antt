@@ -1,0 +1,2 @@
+-- What the program prints for an input.
+pub mod Printing

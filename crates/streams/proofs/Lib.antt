@@ -1,0 +1,2 @@
+-- Laws about the standard streams.
+pub mod Reading

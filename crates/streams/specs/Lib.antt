@@ -1,0 +1,2 @@
+-- What the contracts of the standard streams cite.
+pub mod Reading

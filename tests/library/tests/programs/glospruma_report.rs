@@ -1,0 +1,78 @@
+//! The program that prints the report of a stored table compared with the
+//! reference: texts longer than its room for the input, up to the longest that is
+//! known, tables of all sizes, and inputs longer than any table. Follows document
+//! 01, section "The printed report".
+
+use library::programs::run;
+use library::settings::taken;
+use reference::generate::{self, Generator};
+use reference::report;
+use reference::table::{self, Table};
+
+/// How much of an input the program reads: a byte more than the longest table.
+const INPUT_ROOM: usize = 12_294;
+
+/// The longest text that is known: 12 variables, and all points on but one of one
+/// digit.
+const LONGEST_TEXT: usize = 19_541;
+
+/// Compares the program with the reference; how long the report is.
+fn compare(bytes: &[u8]) -> usize {
+    let text = report::report(bytes);
+    let found = run("glospruma_report", &[], bytes);
+    assert!(
+        found == (text.as_bytes().to_vec(), String::new()),
+        "{bytes:X?}"
+    );
+    text.len()
+}
+
+fn stored((n, on, free): &Table) -> Vec<u8> {
+    table::write_stored(*n, on, free)
+}
+
+#[test]
+fn longest_texts() {
+    let all_but = |off| generate::table_of(12, |point| point != off);
+    for off in 0..10 {
+        assert_eq!(compare(&stored(&all_but(off))), LONGEST_TEXT);
+    }
+    for off in [10, 2048, 4095] {
+        assert!(compare(&stored(&all_but(off))) < LONGEST_TEXT);
+    }
+}
+
+#[test]
+fn texts_longer_than_the_input() {
+    let mut generator = Generator::new(190);
+    for _ in 0..taken(200) {
+        let on = 65 + generator.below(35);
+        let free = generator.below(100 - on);
+        let table = generate::random_table(&mut generator, 12, on, free);
+        let length = compare(&stored(&table));
+        assert!(length > INPUT_ROOM, "{length} bytes");
+    }
+}
+
+#[test]
+fn tables_of_all_sizes() {
+    let mut generator = Generator::new(191);
+    for case in 0..taken(600) {
+        let n = case % 12 + 1;
+        let kept = generator.below(n + 1);
+        let table = generate::closed_table(&mut generator, n, kept, 50);
+        compare(&stored(&table));
+    }
+}
+
+/// The longest table is read whole; with a byte after it, or many, it is refused.
+#[test]
+fn longer_inputs() {
+    let longest = stored(&generate::table_of(12, |_| true));
+    assert_eq!(longest.len(), INPUT_ROOM - 1);
+    compare(&longest);
+    for more in [1, 2, 3, 1000, 1 << 20] {
+        let bytes = [&longest[..], &vec![0x45; more]].concat();
+        assert_eq!(compare(&bytes), "refused 8\n".len());
+    }
+}
