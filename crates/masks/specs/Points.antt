@@ -24,7 +24,7 @@ OfPoints n mask = (x : ℕ) → bit x mask ≡ true → x < 2 ^ n
 -- The places below 64 whose number has bit k clear, as a mask. That it is so is `all-places`.
 abbrev pub lowPlaces : ℕ → ℕ
 lowPlaces k =
-    getD (6148914691236517205 ∷ 3689348814741910323 ∷ 1085102592571150095 ∷ 71777214294589695 ∷ 281470681808895 ∷ 4294967295 ∷ []) k 0
+    getD (0x5555555555555555 ∷ 0x3333333333333333 ∷ 0x0F0F0F0F0F0F0F0F ∷ 0x00FF00FF00FF00FF ∷ 0x0000FFFF0000FFFF ∷ 0x00000000FFFFFFFF ∷ []) k 0
 
 -- The mask r holds x exactly if the mask holds x XOR v.
 abbrev pub Moved : ℕ → ℕ → ℕ → Type 0

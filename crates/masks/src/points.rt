@@ -23,12 +23,12 @@ pub fn mask_of(points: &[u16]) -> u64
 
 // The places whose number has bit k clear, as `lowPlaces`.
 const LOW_PLACES: [u64; 6] = [
-    6148914691236517205,
-    3689348814741910323,
-    1085102592571150095,
-    71777214294589695,
-    281470681808895,
-    4294967295,
+    0x5555555555555555,
+    0x3333333333333333,
+    0x0F0F0F0F0F0F0F0F,
+    0x00FF00FF00FF00FF,
+    0x0000FFFF0000FFFF,
+    0x00000000FFFFFFFF,
 ];
 
 fn low_places(k: usize) -> u64

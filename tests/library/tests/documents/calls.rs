@@ -1,7 +1,8 @@
-//! README's tables of calls and refusals beside the code: the calls are those that
-//! crate `glospruma` exports, the header and the Rust package declare each, README
-//! and the header say the same of its refusals, and the numbers in the tables of
-//! refusals are those that the code gives.
+//! The tables of calls and refusals beside the code: the calls are those that crate
+//! `glospruma` exports, the header and the Rust package declare each, docs/CALLS.md
+//! and the header say the same of its refusals, the numbers in the tables of refusals
+//! are those that the code gives, and their words are those of the header and of the
+//! package. So is the version.
 
 use crate::names::{read, root};
 use crate::tables::{misspelt, numbers, quoted, rows_under, Row};
@@ -9,6 +10,7 @@ use std::collections::BTreeSet;
 use std::fs;
 
 const HEADER: &str = "include/glospruma.h";
+const CALLS: &str = "docs/CALLS.md";
 
 /// The words that follow another one in a text, as far as they are names.
 fn names_after<'a>(text: &'a str, before: &str) -> BTreeSet<&'a str> {
@@ -31,9 +33,12 @@ fn other_than_exported(rows: &[Row]) -> Vec<String> {
 
 #[test]
 fn calls_are_those_of_the_code() {
-    let readme = read("README.md");
-    for titles in [["call", "takes"], ["call", "bytes of stack"]] {
-        let rows = rows_under(&readme, &titles);
+    for (document, title) in [
+        ("README.md", "what it gives"),
+        (CALLS, "takes"),
+        ("docs/MEASURED.md", "bytes of stack"),
+    ] {
+        let rows = rows_under(&read(document), &["call", title]);
         assert_eq!(other_than_exported(&rows), Vec::<String>::new());
         assert_eq!(misspelt(&rows, 0, other_than_exported), rows.len());
     }
@@ -42,7 +47,7 @@ fn calls_are_those_of_the_code() {
 #[test]
 fn calls_are_declared_for_rust() {
     let declarations = read("rust/src/raw.rs");
-    for row in rows_under(&read("README.md"), &["call", "takes"]) {
+    for row in rows_under(&read(CALLS), &["call", "takes"]) {
         let name = quoted(&row.cells[0])[0];
         assert!(declarations.contains(&format!("    fn {name}(")), "{name}");
     }
@@ -66,7 +71,7 @@ fn refusals_in_header(header: &str, call: &str) -> Vec<usize> {
 #[test]
 fn refusals_of_calls_are_those_of_the_header() {
     let header = read(HEADER);
-    for row in rows_under(&read("README.md"), &["call", "takes"]) {
+    for row in rows_under(&read(CALLS), &["call", "takes"]) {
         let in_header = refusals_in_header(&header, quoted(&row.cells[0])[0]);
         assert_eq!(numbers(&row.cells[3]), in_header, "line {}", row.line);
     }
@@ -94,14 +99,11 @@ fn numbers_of(rows: &[Row]) -> Vec<usize> {
 
 #[test]
 fn refusals_are_those_of_the_code() {
-    let rows = rows_under(&read("README.md"), &["refusal"]);
-    let in_readme = numbers_of(&rows);
+    let of_calls = numbers_of(&rows_under(&read(CALLS), &["refusal"]));
+    let mut of_texts = numbers_of(&rows_under(&read("docs/PLA.md"), &["refusal"]));
+    of_texts.retain(|number| !of_calls.contains(number));
     let in_code: Vec<usize> = numbers_in_code().into_iter().collect();
-    assert_eq!(in_readme, in_code);
-    let of_texts = rows_under(&read("docs/DECISIONS.md"), &["number", "given when"]);
-    let mut of_texts = numbers_of(&of_texts);
-    of_texts.retain(|number| *number > 9);
-    assert_eq!(of_texts, in_readme[9..]);
+    assert_eq!([&of_calls[..], &of_texts].concat(), in_code);
     let header = read(HEADER);
     let (_, list) = header
         .split_once("enum glospruma_refusal {")
@@ -111,12 +113,45 @@ fn refusals_are_those_of_the_code() {
         .lines()
         .filter_map(|line| Some(numbers(line.split_once(" = ")?.1)[0]))
         .collect();
-    assert_eq!(in_header[1..], in_readme[..9]);
+    assert_eq!(in_header[1..], of_calls);
+}
+
+/// The texts of the refusals in the header, from 1 on.
+fn texts_in_header(header: &str) -> Vec<String> {
+    let (_, list) = header
+        .split_once("glospruma_refusal_text(unsigned number) {")
+        .expect("the texts");
+    let list = list.split("default:").next().expect("their end");
+    let texts = list.split("return \"").skip(2);
+    let text = |part: &str| part.split('"').next().expect("its end").to_string();
+    texts.map(text).collect()
+}
+
+#[test]
+fn texts_of_refusals_are_the_same() {
+    let rows = rows_under(&read(CALLS), &["refusal", "given exactly when"]);
+    let of_calls: Vec<String> = rows.into_iter().map(|row| row.cells[1].clone()).collect();
+    assert_eq!(texts_in_header(&read(HEADER)), of_calls);
+    let of_package = glospruma::Refusal::ALL.map(|refusal| refusal.to_string());
+    assert_eq!(of_package.to_vec(), of_calls);
+}
+
+#[test]
+fn version_is_the_same() {
+    let header = read(HEADER);
+    let changes = read("CHANGELOG.md");
+    let after = |text: &str, before: &str, end: char| {
+        let rest = text.split_once(before).expect("a version").1;
+        rest.split(end).next().expect("its end").to_string()
+    };
+    let version = after(&header, "#define GLOSPRUMA_VERSION \"", '"');
+    assert_eq!(version, glospruma::VERSION);
+    assert_eq!(version, after(&changes, "\n## ", '\n'));
 }
 
 #[test]
 fn rooms_are_those_of_the_header() {
-    let rows = rows_under(&read("README.md"), &["refusal"]);
+    let rows = rows_under(&read(CALLS), &["refusal"]);
     let advice = rows[6].cells[2].replace(',', "");
     let said: BTreeSet<usize> = numbers(&advice).into_iter().collect();
     let header = read(HEADER);

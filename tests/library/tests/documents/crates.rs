@@ -1,6 +1,7 @@
 //! Every crate of crates.txt has its folder, its row in the table of layers of
-//! docs/ARCHITECTURE.md, below the crates that it uses, and its row in README's
-//! table of sizes; and no row or folder is left of a crate that is gone.
+//! docs/ARCHITECTURE.md, in the same order and below the crates that it uses, and its
+//! row in the table of sizes of docs/MEASURED.md; and no row or folder is left of a
+//! crate that is gone.
 
 use crate::names::{read, root};
 use crate::tables::{misspelt, quoted, rows_under, Row};
@@ -10,7 +11,9 @@ use std::fs;
 /// The crates of crates.txt, each with those that it uses.
 fn listed() -> Vec<(String, Vec<String>)> {
     let text = read("crates.txt");
-    let lines = text.lines().filter(|line| !line.starts_with('#'));
+    let lines = text
+        .lines()
+        .filter(|line| !line.is_empty() && !line.starts_with('#'));
     let words = |text: &str| text.split_whitespace().map(str::to_string).collect();
     let entry = |line: &str| {
         let (name, uses) = line.split_once(':').expect("a name, a colon and uses");
@@ -54,6 +57,8 @@ fn layers_are_those_of_the_list() {
     let mut rows = rows_under(&read("docs/ARCHITECTURE.md"), &["crate", "holds"]);
     assert_eq!(without_a_row(&rows), Vec::<String>::new());
     assert_eq!(above_a_used_one(&rows), Vec::<String>::new());
+    let order: Vec<String> = listed().into_iter().map(|(name, _)| name).collect();
+    assert_eq!(named(&rows), order);
     assert_eq!(misspelt(&rows, 0, without_a_row), names().len());
     rows.swap(0, 1);
     assert_eq!(above_a_used_one(&rows), ["`basis` stands above `gf2`"]);
@@ -61,7 +66,7 @@ fn layers_are_those_of_the_list() {
 
 #[test]
 fn sizes_have_every_crate() {
-    let rows = rows_under(&read("README.md"), &["crate", "code"]);
+    let rows = rows_under(&read("docs/MEASURED.md"), &["crate", "code"]);
     assert_eq!(without_a_row(&rows), Vec::<String>::new());
     assert_eq!(misspelt(&rows, 0, without_a_row), names().len());
 }

@@ -1,4 +1,5 @@
-//! Every file or folder that README.md or docs/*.md name is there. What `rt` and
+//! Every file or folder that a document names is there: README.md, CONTRIBUTING.md,
+//! CHANGELOG.md and docs/*.md. What `rt` and
 //! the examples build, below `target`, is not a file of the repository.
 
 use crate::names::{read, root};
@@ -18,7 +19,7 @@ pub fn documents() -> Vec<String> {
     let mut found: Vec<String> = folder
         .map(|entry| format!("docs/{}", name(entry.expect("an entry of a folder"))))
         .collect();
-    found.push("README.md".to_string());
+    found.extend(["README.md", "CONTRIBUTING.md", "CHANGELOG.md"].map(str::to_string));
     found
 }
 
@@ -105,7 +106,7 @@ fn files_that_documents_name_are_there() {
 
 #[test]
 fn files_of_what_is_proved_are_there() {
-    for row in rows_under(&read("README.md"), &["claim", "theorem", "file"]) {
+    for row in rows_under(&read("docs/PROVED.md"), &["claim", "theorem", "file"]) {
         for path in paths(&row.cells[2]) {
             assert!(root().join(&path).exists(), "line {}: {path}", row.line);
         }

@@ -1,4 +1,4 @@
-//! The documents hold: what README.md and docs/*.md name is there. Theorems,
+//! The documents hold: what README.md, docs/*.md and the others name is there. Theorems,
 //! definitions, functions and must-fail edits are defined in the crate or file
 //! named beside them (`proved`, `specification`), names in running text somewhere
 //! (`prose`), calls and refusal numbers are those of the code and of the header

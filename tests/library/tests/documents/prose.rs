@@ -9,15 +9,18 @@ use crate::names::{defined_by, defined_in, modules_in, read};
 use crate::tables::quoted;
 use std::collections::BTreeSet;
 
-/// Words of that form that no crate defines: packages of Debian, and variables of
-/// the environment.
-const WORDS: [&str; 6] = [
+/// Words of that form that no crate defines: packages of Debian, variables of the
+/// environment, and names of the header and of the Rust package.
+const WORDS: [&str; 9] = [
     "berkeley-abc",
     "cargo-web",
     "GLOSPRUMA_CASES",
     "GLOSPRUMA_LIB_DIR",
     "GLOSPRUMA_SEED",
     "GLOSPRUMA_SHARE",
+    "GLOSPRUMA_VERSION",
+    "VERSION",
+    "glospruma_refusal_text",
 ];
 
 /// The modules that compare the calls with the reference, by their files.

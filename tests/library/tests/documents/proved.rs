@@ -1,4 +1,4 @@
-//! README's table "What is proved": every theorem, definition and function is
+//! The table of claims in docs/PROVED.md: every theorem, definition and function is
 //! defined in a file that its row names.
 
 use crate::names::{defined_in, read};
@@ -35,10 +35,10 @@ fn wrong(rows: &[Row]) -> Vec<String> {
 }
 
 #[test]
-fn theorems_stand_where_the_readme_says() {
-    let rows = rows_under(&read("README.md"), &COLUMNS);
+fn theorems_stand_where_the_table_says() {
+    let rows = rows_under(&read("docs/PROVED.md"), &COLUMNS);
     assert_eq!(wrong(&rows), Vec::<String>::new());
     let count = misspelt(&rows, 1, wrong);
-    println!("README, what is proved: {count} names");
+    println!("docs/PROVED.md: {count} names");
     assert!(count >= rows.len());
 }

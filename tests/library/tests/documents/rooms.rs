@@ -15,12 +15,16 @@ fn number(text: &str) -> usize {
     digits.parse().expect("a number")
 }
 
-/// The constants of a text behind some words, and a text between name and number.
+/// The constants of a text that are numbers, behind some words and with a text
+/// between name and number.
 fn constants<'a>(text: &'a str, before: &str, between: &str) -> BTreeMap<&'a str, usize> {
     let lines = text.lines().filter_map(|line| line.strip_prefix(before));
     let pair = |line: &'a str| line.split_once(between);
+    let is_number =
+        |(_, rest): &(&str, &str)| rest.starts_with(|first: char| first.is_ascii_digit());
     lines
         .filter_map(pair)
+        .filter(is_number)
         .map(|(name, rest)| (name, number(rest)))
         .collect()
 }
