@@ -366,18 +366,6 @@ pub fn form_points(bytes: &[u8], room: &mut [u16]) -> FormPoints
     }
 }
 
-// The bytes, written to the front of a room that has place for them.
-fn copy_bytes(bytes: &[u8], room: &mut [u8])
-    requires { ⌜ length (now bytes) ≤ length (now room) ⌝ }
-    ensures { λ _. ⌜ now (room .exit) ≡ front (now (bytes .entry)) (now (room .entry)) ⌝ }
-{
-    let mut i = 0;
-    while i < bytes.len() {
-        room[i] = bytes[i];
-        i += 1;
-    }
-}
-
 // A form that was read, written to the front of the room, which gives the same bytes; refused are bytes that are no form (8), then a room that
 // is short (7).
 pub fn form_rewrite(bytes: &[u8], room: &mut [u8]) -> FormRewrite
@@ -397,7 +385,7 @@ pub fn form_rewrite(bytes: &[u8], room: &mut [u8]) -> FormRewrite
             length: 0,
         };
     }
-    copy_bytes(bytes, room);
+    bytes::copy(bytes, &mut *room);
     FormRewrite {
         refusal: 0,
         length: bytes.len(),

@@ -1,11 +1,12 @@
 -- `form::form_rewrite` meets its contract: the form's own refusal, then the room's, decide; what was read is written as the bytes that were
 -- read. Assumes nothing.
 use mathlib.Core.Path.{_≡_, refl, sym, ap, _∙_}
-use mathlib.Core.List.{List}
+use mathlib.Core.List.{List, _++_}
 use Prim.Native.Nat.{ℕ}
 use native.Mathlib.Omega.{arith}
 use borrow.Author.Needs.{needs}
-use lib.ListN.{length}
+use lib.ListN.{length, drop}
+use lib.Seq.{take-length}
 use Rattle.table.specs.Decision.{front}
 use Rattle.form.specs.Reading.{formFault, rewritten}
 use Rattle.form.proofs.Encodings.{rewritten-same}
@@ -36,8 +37,8 @@ returns-2 c =
     let a = e .before .before .before .before .args in
     rewrite-ways (a .bytes .now) (a .room .now) .short (sound e) (omega (arith, ap length (same e))) _ refl
 
-copy-bytes-requires : tie.Need-copy-bytes-requires
-copy-bytes-requires c κs = search needs
+copy-requires : tie.Need-copy-requires
+copy-requires c κs = search needs
 
 same-length : tie.Need-same-length
 same-length c = search needs
@@ -49,9 +50,9 @@ returns-3 c =
     let a = e .before .before .before .before .args in
     rewrite-ways (a .bytes .now) (a .room .now) .whole (sound e) (omega (arith, ap length (same e), w .before .before .if2 .left)) _ _
     (ap (λ (l : List ℕ). record { refusal = 0; length = length l }) (sym (same e)))
-    (w .copy-bytes .ensures ∙ ap (λ (l : List ℕ). front l (a .room .now)) (sym (same e)))
+    (w .copy .ensures .1 ∙ ap (λ (l : List ℕ). l ++ drop (length (a .bytes .now)) (a .room .now)) (take-length (a .bytes .now)) ∙ ap (λ (l : List ℕ). front l (a .room .now)) (sym (same e)))
 
 pub form-rewrite-spec : {M : Type 1} → statement M
 form-rewrite-spec =
     tie.close
-    (tie.spec form-fault-requires returns returns-2 copy-bytes-requires same-length returns-3)
+    (tie.spec form-fault-requires returns returns-2 copy-requires same-length returns-3)
