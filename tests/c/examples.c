@@ -461,6 +461,20 @@ static void layout(void) {
     CHECK(sizeof(glospruma_report_written) == 16);
 }
 
+/* The words of the refusals: each number has its own, and a number that no call gives has those of none. What they say is compared with the
+ * documents elsewhere. */
+static void texts(void) {
+    unsigned first, second;
+    for (first = GLOSPRUMA_ACCEPTED; first <= GLOSPRUMA_PLACE + 1; first++) {
+        CHECK(strlen(glospruma_refusal_text(first)) > 0);
+        for (second = GLOSPRUMA_ACCEPTED; second < first; second++) {
+            CHECK(strcmp(glospruma_refusal_text(first), glospruma_refusal_text(second)) != 0);
+        }
+    }
+    CHECK(strcmp(glospruma_refusal_text(UINT8_MAX), glospruma_refusal_text(GLOSPRUMA_PLACE + 1)) == 0);
+    CHECK(strlen(GLOSPRUMA_VERSION) > 0);
+}
+
 typedef struct {
     const char *name;
     void (*run)(void);
@@ -483,6 +497,7 @@ int main(void) {
         {"refused bytes", refused_bytes},
         {"short rooms", short_rooms},
         {"layout", layout},
+        {"texts", texts},
     };
     size_t place, failed = 0;
     for (place = 0; place < LENGTH(cases); place++) {
