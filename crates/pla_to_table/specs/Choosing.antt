@@ -1,4 +1,4 @@
--- Which output the arguments choose (docs/DECISIONS.md, "Truth tables in Berkeley PLA"). Read next: Messages.
+-- Which output the arguments choose (docs/PLA.md). Read next: Messages.
 use mathlib.Core.Bool.{cond}
 use mathlib.Core.List.{List}
 use Prim.Native.Nat.{ℕ}

@@ -1,6 +1,6 @@
 // Reads a truth table in Berkeley PLA from standard input and writes one output of it as a stored table to standard output. The output is the
 // first argument, counted from 1; without one it is the first. A refusal goes to standard error as its number and, where a line is at fault, that
-// line (docs/DECISIONS.md). `main` only reads, calls and writes. Read next: specs/Choosing.antt, and crate `pla`, whose call is made.
+// line (docs/PLA.md). `main` only reads, calls and writes. Read next: specs/Choosing.antt, and crate `pla`, whose call is made.
 ghost use mathlib.Core.Path.{_≡_};
 ghost use mathlib.Core.List.{List};
 ghost use Prim.Native.Nat.{ℕ, _≤_};

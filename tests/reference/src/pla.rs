@@ -1,6 +1,5 @@
 //! The reader of truth tables in Berkeley PLA: one output of a text as a table,
-//! or the refusal number and the line at fault. Follows docs/DECISIONS.md, section
-//! "Truth tables in Berkeley PLA"; not of document 01.
+//! or the refusal number and the line at fault. Follows docs/PLA.md; not of document 01.
 
 use crate::table::{Table, MOST_VARIABLES};
 

@@ -1,6 +1,5 @@
 //! The reader of Berkeley PLA on every pair of cubes of two inputs, by what each
-//! point is told. Follows docs/DECISIONS.md, section "Truth tables in Berkeley
-//! PLA".
+//! point is told. Follows docs/PLA.md.
 
 use reference::pla::{number, read};
 

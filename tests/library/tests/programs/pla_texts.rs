@@ -1,6 +1,5 @@
 //! Texts in Berkeley PLA: whole ones in many layouts, ones of random statements,
-//! and damaged ones. Follows docs/DECISIONS.md, section "Truth tables in Berkeley
-//! PLA"; the same seed gives the same texts.
+//! and damaged ones. Follows docs/PLA.md; the same seed gives the same texts.
 
 use reference::generate::Generator;
 use reference::table::Table;

@@ -1,6 +1,6 @@
 //! The program that reads a truth table in Berkeley PLA compared with the
 //! reference: the stored table that it writes, or the refusal number and line.
-//! Follows docs/DECISIONS.md, section "Truth tables in Berkeley PLA".
+//! Follows docs/PLA.md.
 
 use crate::pla_texts::{self as texts, Shape, KINDS};
 use crate::tally::{assert_counts, Tally};

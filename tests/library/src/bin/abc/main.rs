@@ -5,7 +5,7 @@
 //! PLA, which it reads with its own reader, whether the program `pla_to_table`
 //! finds the same on points. Each has a second network, altered on purpose, and ABC
 //! must tell whether that one still is the same. Follows document 01, section "The
-//! written form", and docs/DECISIONS.md, section "Truth tables in Berkeley PLA".
+//! written form", and docs/PLA.md.
 //!
 //! The command is `berkeley-abc`, of the Debian package of that name; it runs once
 //! for all. The last line is 'N passed, 0 failed', a count to each table and text.

@@ -1,7 +1,6 @@
 //! Truth tables in Berkeley PLA that both ABC and the program `pla_to_table` read.
 //! ABC takes a 1 as on and every other symbol as nothing, whatever the type is, so
-//! the on points are compared. Follows docs/DECISIONS.md, section "Truth tables in
-//! Berkeley PLA"; every run has the same texts.
+//! the on points are compared. Follows docs/PLA.md; every run has the same texts.
 
 use crate::networks;
 use crate::Case;
