@@ -3,13 +3,12 @@ use mathlib.Core.Path.{_≡_, refl, ap, ap₂, _∙_}
 use mathlib.Core.Bool.{Bool, false}
 use mathlib.Core.Logic.{inl, inr}
 use mathlib.Core.List.{List, [], _∷_, _++_}
-use Prim.Native.Nat.{ℕ, _^_, _≤_, _<_}
+use Prim.Native.Nat.{ℕ, _^_, _≤_}
 use lib.ListN.{length, take, drop, getD}
 use lib.Seq.{take-append-seam}
 use Rattle.gf2.specs.Limits.{maxVariables}
 use Rattle.gf2.specs.Finite.{holds, select}
-use Rattle.gf2.proofs.Logic.{same}
-use Rattle.gf2.proofs.Finite.{holds-mem, select-mem, mem-select, select-rising}
+use Rattle.gf2.proofs.Finite.{select-mem, select-holds, select-rising}
 use Rattle.table.specs.Refusal.{Test, test, NoneApplies, sizeFault}
 use Rattle.table.specs.Decision.{front, Decision, roomTest}
 use Rattle.table.specs.Table.{tableTests, tableFault, Accepted}
@@ -107,11 +106,6 @@ space-gave n on a = decide-accepted (linearSpaceTests n on) (linearSpaceAccepted
 
 -- The points of a function are a table without free points, with the function's linear space.
 module _ (n : ℕ) (some : 1 ≤ n) (few : n ≤ maxVariables) (f : ℕ → Bool) where
-  selected-at : (w : ℕ) → w < 2 ^ n → holds (select f (2 ^ n)) w ≡ f w
-  selected-at w h =
-      same (holds (select f (2 ^ n)) w) (f w) (λ e. select-mem f (2 ^ n) w (holds-mem (select f (2 ^ n)) w .0 e) .1)
-      (λ e. holds-mem (select f (2 ^ n)) w .1 (mem-select f (2 ^ n) w h e))
-
   pub selected-accepted : Accepted n (select f (2 ^ n)) []
   selected-accepted = record {
     some = some;
@@ -124,4 +118,4 @@ module _ (n : ℕ) (some : 1 ≤ n) (few : n ≤ maxVariables) (f : ℕ → Bool
   }
 
   pub selected-space : linearSpace n (holds (select f (2 ^ n))) ≡ linearSpace n f
-  selected-space = linear-ext n (holds (select f (2 ^ n))) f selected-at
+  selected-space = linear-ext n (holds (select f (2 ^ n))) f (select-holds f (2 ^ n))

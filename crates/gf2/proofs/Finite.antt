@@ -11,7 +11,7 @@ use borrow.Author.Tests.{not-true, not-false, eqb-true, eq-eqb}
 use lib.Dec.{eqb}
 use lib.ListN.{length, getD, drop, take, length-append}
 use Rattle.gf2.specs.Finite.{Mem, holds, Ordered, Rising, all, select}
-use Rattle.gf2.proofs.Logic.{clash, and-l, and-r, and-i, or-l, or-r, or-cases, cond-cases}
+use Rattle.gf2.proofs.Logic.{clash, same, and-l, and-r, and-i, or-l, or-r, or-cases, cond-cases}
 use lib.Seq.{take-suc}
 
 -- ---- all numbers below a bound
@@ -128,6 +128,11 @@ holds-mem (y ∷ ys) x = (
   λ e. elim (or-cases (eqb y x) (holds ys x) e) [ inl h ↦ inl (sym (eqb-true y x h)) | inr h ↦ inr (holds-mem ys x .0 h) ],
   λ m. elim m [ inl q ↦ or-l (eqb y x) (holds ys x) (eq-eqb y x (sym q)) | inr k ↦ or-r (eqb y x) (holds ys x) (holds-mem ys x .1 k) ],
 )
+
+-- The numbers below k that pass a test, as a test of membership.
+pub select-holds : (f : ℕ → Bool) (k x : ℕ) → x < k → holds (select f k) x ≡ f x
+select-holds f k x h =
+    same (holds (select f k) x) (f x) (λ e. select-mem f k x (holds-mem (select f k) x .0 e) .1) (λ e. holds-mem (select f k) x .1 (mem-select f k x h e))
 
 -- ---- ordered lists
 

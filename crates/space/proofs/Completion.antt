@@ -9,8 +9,8 @@ use native.Mathlib.Omega.{arith}
 use lib.Dec.{ltb}
 use borrow.Author.Tests.{ltb-true, ltb-false, lt-ltb, le-ltb}
 use Rattle.gf2.specs.Finite.{Mem, holds, Rising, In}
-use Rattle.gf2.proofs.Logic.{same, cond-cases, or-l, or-false}
-use Rattle.gf2.proofs.Finite.{holds-mem, select-mem, mem-select, select-rising}
+use Rattle.gf2.proofs.Logic.{cond-cases, or-l, or-false}
+use Rattle.gf2.proofs.Finite.{holds-mem, select-mem, mem-select, select-rising, select-holds}
 use Rattle.space.specs.Closure.{degree}
 use Rattle.space.specs.Completion.{allOff, allOn, k0, k1, completed, completedPoints}
 
@@ -59,7 +59,5 @@ completed-points n on free w =
 
 -- As a test of membership, below 2 ^ n.
 pub completed-at : (n : ℕ) (on free : List ℕ) (w : ℕ) → w < 2 ^ n → holds (completedPoints n on free) w ≡ completed n on free w
-completed-at n on free w h =
-    let a = holds-mem (completedPoints n on free) w in
-    let b = completed-points n on free w in
-    same (holds (completedPoints n on free) w) (completed n on free w) (λ e. b .0 (a .0 e) .1) (λ e. a .1 (b .1 (h, e)))
+unfolding completedPoints
+completed-at n on free w h = select-holds (completed n on free) (2 ^ n) w h
