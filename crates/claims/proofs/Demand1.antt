@@ -17,7 +17,7 @@ use Rattle.stored.specs.Stored.{storedTests, storedFault}
 use Rattle.stored.specs.Reading.{readCall, readAnswer, readOnAfter, readFreeAfter}
 use Rattle.analysis.specs.Spaces.{linearSpaceCall, linearSpaceAnswer, completeCall, completeAnswer, completeAfter, analyseCall, analyseAnswer, analyseAfter}
 use Rattle.analysis.specs.Affine.{affineCall, affineAnswer, affineAfter}
-use Rattle.form.specs.Reading.{pointsCall, pointsAnswer, pointsAfter, rewriteCall, rewriteAnswer, rewriteAfter}
+use Rattle.form_calls.specs.Reading.{pointsCall, pointsAnswer, pointsAfter, rewriteCall, rewriteAnswer, rewriteAfter}
 use Rattle.cubes.specs.Lists.{keep}
 use Rattle.cubes.specs.Listing.{listingCall, listingAnswer, listingAfter}
 use Rattle.listing.specs.Answers.{callOf}

@@ -28,11 +28,11 @@ use Rattle.space.specs.Restriction.{equations, values}
 use Rattle.space.proofs.Closure.{closed-at, closed-of, linear-reduced, linear-span, linear-below}
 use Rattle.space.proofs.Completion.{kept-on, kept-off, completed-rising, completed-points, completed-at, completed-degree}
 use Rattle.space.proofs.Restriction.{restriction-at, restriction-rising, restriction-below, equations-length}
-use Rattle.form.specs.declared.FormPoints.{FormPoints}
-use Rattle.form.specs.declared.FormRewrite.{FormRewrite}
+use Rattle.form_calls.specs.declared.FormPoints.{FormPoints}
+use Rattle.form_calls.specs.declared.FormRewrite.{FormRewrite}
 use Rattle.form.specs.Form.{Form, ValidForm, formAt}
-use Rattle.form.specs.Reading.{pointsAnswer, rewriteAnswer}
-use Rattle.form.proofs.Answering.{points-ways, rewrite-ways}
+use Rattle.form_calls.specs.Reading.{pointsAnswer, rewriteAnswer}
+use Rattle.form_calls.proofs.Answering.{points-ways, rewrite-ways}
 use Rattle.cubes.specs.Records.{maxListed}
 use Rattle.cover.specs.WrittenForm.{formSizeFault}
 use Rattle.cover.proofs.WrittenForm.{table-form-at}

@@ -22,7 +22,8 @@ use Rattle.form.specs.Form.{Form, ValidForm, formAt, formPoints}
 use Rattle.product.specs.Product.{Factor}
 use Rattle.form.specs.Encoding.{encodeFactors, encodeProducts, encodeForm}
 use Rattle.form.specs.Decoding.{decodeForm}
-use Rattle.form.specs.Reading.{formFault, pointsRead, rewritten}
+use Rattle.form.specs.Refusal.{formFault}
+use Rattle.form_calls.specs.Reading.{pointsRead, rewritten}
 use Rattle.form.proofs.Encodings.{decoded, encoded-form}
 use Rattle.cubes.specs.Records.{maxListed}
 use Rattle.cover.specs.WrittenForm.{writtenForm, formSizeFault}

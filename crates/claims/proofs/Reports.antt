@@ -18,9 +18,9 @@ use Rattle.table.proofs.Decide.{decide-accepted}
 use Rattle.space.specs.Closure.{linearSpace}
 use Rattle.space.specs.Completion.{completedPoints}
 use Rattle.space.proofs.Closure.{linear-ext}
-use Rattle.form.specs.declared.FormPoints.{FormPoints}
-use Rattle.form.specs.declared.FormRewrite.{FormRewrite}
-use Rattle.form.specs.Reading.{pointsRead, pointsAccepted, pointsAnswer, pointsAfter, rewritten, rewriteAccepted, rewriteAnswer, rewriteAfter}
+use Rattle.form_calls.specs.declared.FormPoints.{FormPoints}
+use Rattle.form_calls.specs.declared.FormRewrite.{FormRewrite}
+use Rattle.form_calls.specs.Reading.{pointsRead, pointsAccepted, pointsAnswer, pointsAfter, rewritten, rewriteAccepted, rewriteAnswer, rewriteAfter}
 use Rattle.cubes.proofs.Lists.{mem-append}
 use Rattle.cover.specs.WrittenForm.{formSizeFault}
 use Rattle.writing.specs.declared.FormWritten.{FormWritten}

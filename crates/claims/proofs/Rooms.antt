@@ -30,9 +30,10 @@ use Rattle.product.proofs.Points.{canonical-length}
 use Rattle.form.specs.Form.{Form, ValidForm, formAt, formPoints}
 use Rattle.form.specs.Encoding.{encodeProducts, encodeForm}
 use Rattle.form.specs.Decoding.{decodeForm}
-use Rattle.form.specs.Reading.{formFault, pointsRead}
+use Rattle.form.specs.Refusal.{formFault}
+use Rattle.form_calls.specs.Reading.{pointsRead}
 use Rattle.form.proofs.Encodings.{form-valid, rewritten-same}
-use Rattle.form.proofs.Answering.{accepted-form}
+use Rattle.form.proofs.Accepting.{accepted-form}
 use Rattle.cubes.specs.Lists.{keep}
 use Rattle.cubes.specs.Cubes.{Candidate, candidate, degree, IsCandidate}
 use Rattle.cubes.specs.Candidates.{Before, bases, vectors, candidates}

@@ -25,9 +25,9 @@ use Rattle.analysis.specs.declared.Analysis.{Analysis}
 use Rattle.analysis.specs.declared.AffineSpace.{AffineSpace}
 use Rattle.analysis.specs.Spaces.{linearSpaceCall, linearSpaceAnswer, completeCall, completeAnswer, completeAfter, completedRestriction, analyseCall, analyseAnswer, analyseAfter}
 use Rattle.analysis.specs.Affine.{affineProjection, affineCall, affineAnswer, affineAfter}
-use Rattle.form.specs.declared.FormPoints.{FormPoints}
-use Rattle.form.specs.declared.FormRewrite.{FormRewrite}
-use Rattle.form.specs.Reading.{pointsRead, pointsCall, pointsAnswer, pointsAfter, rewritten, rewriteCall, rewriteAnswer, rewriteAfter}
+use Rattle.form_calls.specs.declared.FormPoints.{FormPoints}
+use Rattle.form_calls.specs.declared.FormRewrite.{FormRewrite}
+use Rattle.form_calls.specs.Reading.{pointsRead, pointsCall, pointsAnswer, pointsAfter, rewritten, rewriteCall, rewriteAnswer, rewriteAfter}
 use Rattle.cubes.specs.Lists.{keep}
 use Rattle.cubes.specs.Records.{recordsOf}
 use Rattle.cubes.specs.Listing.{listing, Answer, listingCall, listingAnswer, listingAfter}

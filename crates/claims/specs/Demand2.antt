@@ -17,11 +17,11 @@ use Rattle.basis.specs.Reduced.{vectorsOf}
 use Rattle.table.specs.Refusal.{sizeFault}
 use Rattle.space.specs.Completion.{allOn, completedPoints}
 use Rattle.space.specs.Restriction.{equations, values}
-use Rattle.form.specs.declared.FormPoints.{FormPoints}
-use Rattle.form.specs.declared.FormRewrite.{FormRewrite}
+use Rattle.form_calls.specs.declared.FormPoints.{FormPoints}
+use Rattle.form_calls.specs.declared.FormRewrite.{FormRewrite}
 use Rattle.form.specs.Form.{ValidForm, formAt}
 use Rattle.form.specs.Decoding.{decodeForm}
-use Rattle.form.specs.Reading.{pointsAnswer, pointsAfter, rewriteAnswer, rewriteAfter}
+use Rattle.form_calls.specs.Reading.{pointsAnswer, pointsAfter, rewriteAnswer, rewriteAfter}
 use Rattle.cubes.specs.Records.{maxListed}
 use Rattle.cover.specs.WrittenForm.{writtenForm}
 use Rattle.writing.specs.declared.FormWritten.{FormWritten}

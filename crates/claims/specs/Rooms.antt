@@ -10,7 +10,8 @@ use Rattle.records.specs.Kinds.{Bytes}
 use Rattle.stored.specs.Marks.{storedOn, storedFree}
 use Rattle.stored.specs.Stored.{storedFault}
 use Rattle.space.specs.Completion.{completedPoints}
-use Rattle.form.specs.Reading.{formFault, pointsRead, rewritten}
+use Rattle.form.specs.Refusal.{formFault}
+use Rattle.form_calls.specs.Reading.{pointsRead, rewritten}
 use Rattle.cubes.specs.Records.{maxListed, recordsOf}
 use Rattle.cubes.specs.Listing.{Table, Call, accepted, listingAnswer}
 use Rattle.cubes.specs.Calls.{primesBehind, endOf}

@@ -1,5 +1,5 @@
 -- An accepted form that is cut anywhere is refused: it misses bytes at the place where it was cut (`form-cut`; the place is that of document
--- 02, No. 3). Read next: Valuing.
+-- 02, No. 3). Read next: Accepting.
 use mathlib.Core.Path.{_≡_, refl, ap, _∙_}
 use mathlib.Core.List.{List, [], _∷_, _++_}
 use Prim.Native.Nat.{ℕ, suc, _+_}
@@ -14,7 +14,7 @@ use Rattle.product.specs.Product.{Factor, factor}
 use Rattle.records.specs.declared.Walk.the-variants.{Missing}
 use Rattle.form.specs.Form.{maxProducts}
 use Rattle.form.specs.Walk.{behind, walkFormFrom, walkedForm}
-use Rattle.form.specs.Reading.{IsForm}
+use Rattle.form.specs.Refusal.{IsForm}
 use Rattle.form.proofs.Laying.{Laying, ends, begins, holds, LaidAs, form, form-laid}
 
 -- The first element and the others of one list written in two ways.

@@ -23,7 +23,7 @@ use Rattle.form.specs.Form.{maxProducts, Form, ValidForm}
 use Rattle.form.specs.Encoding.{encodeFactors, encodeProducts, encodeForm}
 use Rattle.form.specs.Decoding.{Parts, noParts, partsFrom, decodeForm}
 use Rattle.form.specs.Walk.{walkedForm}
-use Rattle.form.specs.Reading.{IsForm}
+use Rattle.form.specs.Refusal.{IsForm}
 use Rattle.form.proofs.Laying.{Laying, ends, begins, holds, LaidAs, form, walk-longer, is-form, form-laid}
 
 -- ---- the parts of each record and of those that follow

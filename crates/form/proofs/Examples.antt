@@ -5,28 +5,22 @@ use mathlib.Core.List.{List, [], _∷_, _++_}
 use Prim.Native.Nat.{ℕ}
 use lib.ListN.{replicate}
 use Rattle.gf2.specs.Bits.{bit}
-use Rattle.gf2.specs.Finite.{select}
-use Rattle.gf2.specs.Parity.{oddIn, odd}
 use Rattle.records.specs.Kinds.{headOf}
 use Rattle.records.specs.Walks.{walkBy}
 use Rattle.table.specs.Table.{badCount}
 use Rattle.product.specs.Lowest.{evenHalvings, lowest}
-use Rattle.product.specs.Product.{factorAt, productAt, someProductAt, fits, apartMasks, apart, agrees}
+use Rattle.product.specs.Product.{fits, apartMasks, apart, agrees}
 use Rattle.records.specs.declared.Walk.the-variants.{Laid, WrongKind, Missing, WrongVariables, WrongFactor, NotCanonical, WrongCount, After, TooMany}
-use Rattle.form.specs.Form.{formPoints}
-use Rattle.form.specs.Encoding.{encodeFactors, encodeProducts, encodeForm}
-use Rattle.form.specs.Decoding.{partsFrom}
 use Rattle.form.specs.Walk.{walkedForm}
-use Rattle.form.specs.Reading.{pointsRead, rewritten}
 
 -- The forms of P1, P3 and P5.
-abbrev one : List ℕ
+abbrev pub one : List ℕ
 one = 0x4E ∷ 0x01 ∷ 0x45 ∷ 0x00 ∷ 0x00 ∷ []
 
-abbrev three : List ℕ
+abbrev pub three : List ℕ
 three = 0x4E ∷ 0x01 ∷ 0x50 ∷ 0x45 ∷ 0x01 ∷ 0x00 ∷ []
 
-abbrev five : List ℕ
+abbrev pub five : List ℕ
 five =
     0x4E ∷ 0x04 ∷ 0x50 ∷ 0x58 ∷ 0x01 ∷ 0x04 ∷ 0x00 ∷ 0x50 ∷ 0x58 ∷ 0x01 ∷ 0x0C ∷ 0x00 ∷ 0x58 ∷ 0x00 ∷ 0x0B ∷ 0x00 ∷ 0x45 ∷ 0x02 ∷ 0x00 ∷ []
 
@@ -40,14 +34,10 @@ abbrev empties : ℕ → List ℕ
 empties count = 0x4E ∷ 0x01 ∷ (replicate count 0x50 ++ (0x45 ∷ count ∷ 0x00 ∷ []))
 
 pub record Examples : Type 0 where
-  -- Forms, their points, and that they are written as they were read.
+  -- Forms.
   pub p1 : walkedForm one ≡ Laid 0
-  pub p1-points : pointsRead one ≡ []
   pub p3 : walkedForm three ≡ Laid 1
-  pub p3-points : pointsRead three ≡ 0 ∷ 1 ∷ []
   pub p5 : walkedForm five ≡ Laid 2
-  pub p5-points : pointsRead five ≡ 4 ∷ 5 ∷ 6 ∷ 7 ∷ 9 ∷ 10 ∷ 12 ∷ 13 ∷ 14 ∷ 15 ∷ []
-  pub p5-again : rewritten five ≡ five
   pub most-products : walkedForm (empties 64) ≡ Laid 64
   pub most-variables : walkedForm (0x4E ∷ 12 ∷ 0x45 ∷ 0x00 ∷ 0x00 ∷ []) ≡ Laid 0
   -- A kind that is unknown, or stands wrong: a factor before any product, a point.
@@ -77,16 +67,12 @@ pub record Examples : Type 0 where
   pub too-many : walkedForm (empties 65) ≡ TooMany 66
 
 pub examples : Examples
-unfolding walkedForm walkBy headOf badCount fits agrees apart apartMasks lowest evenHalvings bit partsFrom formPoints select someProductAt productAt factorAt odd oddIn encodeForm encodeProducts encodeFactors
+unfolding walkedForm walkBy headOf badCount fits agrees apart apartMasks lowest evenHalvings bit
 examples =
     record {
       p1 = refl;
-      p1-points = refl;
       p3 = refl;
-      p3-points = refl;
       p5 = refl;
-      p5-points = refl;
-      p5-again = refl;
       most-products = refl;
       most-variables = refl;
       unknown = refl;

@@ -26,7 +26,7 @@ use Rattle.records.proofs.Whole.{not-whole, body-length, faulty, head-goes}
 use Rattle.form.specs.Form.{maxProducts}
 use Rattle.form.specs.Decoding.{factorOf}
 use Rattle.form.specs.Walk.{variablesStep, firstFormKind, productStep, judgeStep, factorStep, behind, laterFormKind, passed, walkFormFrom, walkedForm}
-use Rattle.form.specs.Reading.{IsForm}
+use Rattle.form.specs.Refusal.{IsForm}
 
 -- The bytes, with a number of products behind them and the factors of the last of these, are whole records of products and factors and
 -- the end, which gives the number of all products; each factor fits and agrees with those before it.

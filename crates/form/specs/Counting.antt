@@ -1,4 +1,4 @@
--- What lies behind the walk as the code keeps it: two counts, since the factors themselves stand in the bytes. Read next: Reading.
+-- What lies behind the walk as the code keeps it: two counts, since the factors themselves stand in the bytes. Read next: Refusal.
 use mathlib.Core.Bool.{cond}
 use mathlib.Core.List.{List, [], _∷_, _++_}
 use Prim.Native.Nat.{ℕ, zero, suc, _+_, _-_, _*_, _≤_}

@@ -5,4 +5,4 @@ pub mod Encoding
 pub mod Decoding
 pub mod Walk
 pub mod Counting
-pub mod Reading
+pub mod Refusal

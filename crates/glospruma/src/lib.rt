@@ -4,7 +4,7 @@
 ghost use mathlib.Core.Path.{_≡_};
 ghost use lib.ListN.{length};
 ghost use Rattle.stored.specs.Reading.{readAnswer, readOnAfter, readFreeAfter};
-ghost use Rattle.form.specs.Reading.{pointsAnswer, pointsAfter, rewriteAnswer, rewriteAfter};
+ghost use Rattle.form_calls.specs.Reading.{pointsAnswer, pointsAfter, rewriteAnswer, rewriteAfter};
 ghost use Rattle.cubes.specs.Listing.{listingAnswer, listingAfter};
 ghost use Rattle.listing.specs.Answers.{callOf, numbersOf};
 ghost use Rattle.writing.specs.Writing.{writeAnswer, writeAfter};
@@ -15,8 +15,8 @@ use analysis::AffineSpace;
 use analysis::Analysis;
 use analysis::Completion;
 use analysis::LinearSpace;
-use form::FormPoints;
-use form::FormRewrite;
+use form_calls::FormPoints;
+use form_calls::FormRewrite;
 use listing::Listed;
 use report::ReportWritten;
 use stored::TableRead;
@@ -83,7 +83,7 @@ pub extern "C" fn glospruma_form_points(bytes: &[u8], room: &mut [u16]) -> FormP
     ensures { λ r. ⌜ r ≡ pointsAnswer (now (bytes .entry)) (now (room .entry)) ⌝ }
     ensures { λ r. ⌜ now (room .exit) ≡ pointsAfter (now (bytes .entry)) (now (room .entry)) ⌝ }
 {
-    form::form_points(bytes, &mut *room)
+    form_calls::form_points(bytes, &mut *room)
 }
 
 // A form read and written again, at the front of the room: the same bytes. Refusals 8, then 7.
@@ -92,7 +92,7 @@ pub extern "C" fn glospruma_form_rewrite(bytes: &[u8], room: &mut [u8]) -> FormR
     ensures { λ r. ⌜ r ≡ rewriteAnswer (now (bytes .entry)) (now (room .entry)) ⌝ }
     ensures { λ r. ⌜ now (room .exit) ≡ rewriteAfter (now (bytes .entry)) (now (room .entry)) ⌝ }
 {
-    form::form_rewrite(bytes, &mut *room)
+    form_calls::form_rewrite(bytes, &mut *room)
 }
 
 // The primes of a table from a place on: candidates are passed in order until the end, the end of the allowance, or a prime that no longer

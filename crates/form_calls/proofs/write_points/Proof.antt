@@ -1,4 +1,4 @@
--- `form::write_points` meets its contract: the points passed are written, and the count is theirs. Assumes nothing.
+-- `form_calls::write_points` meets its contract: the points passed are written, and the count is theirs. Assumes nothing.
 use Prim.Native.Nat.{ℕ, _≤_, _<_, _-_}
 use mathlib.Core.Path.{_≡_, refl, sym, ap, _∙_}
 use mathlib.Core.Bool.{true, false}
@@ -10,10 +10,10 @@ use lib.ListN.{length}
 use Rattle.gf2.specs.Finite.{select}
 use Rattle.table.specs.Decision.{front}
 use Rattle.table.proofs.Selecting.{count-step, write-step, written-length, written-room}
 use Rattle.form.specs.Form.{formAt}
 use Rattle.form.specs.Decoding.{decodeForm}
-use Rattle.form.proofs.write_points.Statement.{statement}
-use Rattle.form.proofs.write_points.Tie as tie
+use Rattle.form_calls.proofs.write_points.Statement.{statement}
+use Rattle.form_calls.proofs.write_points.Tie as tie
 
 abbrev Inv-loop : tie.InvT-loop
 Inv-loop bytes size room₀ count₀ point₀ room count point =

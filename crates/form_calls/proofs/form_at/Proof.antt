@@ -1,4 +1,4 @@
--- `form::form_at` meets its contract: the value of what is left, with what the product that the loop is in says so far, stays that of the
+-- `form_calls::form_at` meets its contract: the value of what is left, with what the product that the loop is in says so far, stays that of the
 -- whole form. Assumes nothing.
 use mathlib.Core.Path.{_≡_, sym, ap, _∙_}
 use mathlib.Core.Bool.{Bool, true, _&&_, _||_}
@@ -6,12 +6,12 @@ use Prim.Native.Nat.{ℕ, _≤_, _+_, _-_}
 use native.Mathlib.Omega.{arith}
 use lib.ListN.{length, drop}
 use Rattle.product.specs.Product.{factorAt}
 use Rattle.form.specs.Form.{formAt}
 use Rattle.form.specs.Decoding.{factorOf, partsFrom, decodeForm}
 use Rattle.form.proofs.Laying.{form-laid}
-use Rattle.form.proofs.Valuing.{valueFrom, value-first, Rest, rest-first, rest-there, product-at, factor-at, end-at}
-use Rattle.form.proofs.form_at.Statement.{statement}
-use Rattle.form.proofs.form_at.Tie as tie
+use Rattle.form_calls.proofs.Valuing.{valueFrom, value-first, Rest, rest-first, rest-there, product-at, factor-at, end-at}
+use Rattle.form_calls.proofs.form_at.Statement.{statement}
+use Rattle.form_calls.proofs.form_at.Tie as tie
 
 abbrev Inv-loop : tie.InvT-loop
 Inv-loop bytes point place₀ holds₀ place holds =

@@ -1,27 +1,17 @@
--- When the bytes of a form are refused and with which number, and the answers of the calls that read a form
--- (document 01, "Refusal numbers"). Read next: crate `cubes`.
-use mathlib.Core.Path.{_≡_}
-use mathlib.Core.Bool.{false}
+-- The answers of the calls that read a form, and what stands in the lent rooms afterwards (document 01, "Refusal numbers").
+-- Read next: crate `cover`.
 use mathlib.Core.List.{List, _++_}
 use Prim.Native.Nat.{ℕ}
 use lib.ListN.{length}
 use Rattle.table.specs.Refusal.{Test}
 use Rattle.table.specs.Decision.{Decision, answerOf, afterOf, roomTest}
-use Rattle.records.specs.Walks.{isFault, layoutTests, layoutOf}
-use Rattle.form.specs.declared.FormPoints.{FormPoints}
-use Rattle.form.specs.declared.FormRewrite.{FormRewrite}
+use Rattle.records.specs.Walks.{layoutTests}
 use Rattle.form.specs.Form.{formPoints}
 use Rattle.form.specs.Encoding.{encodeForm}
 use Rattle.form.specs.Decoding.{formVariables, decodeForm}
 use Rattle.form.specs.Walk.{walkedForm}
-
--- The bytes are a form. That they are so exactly if they encode a valid form is `form-exactly`.
-abbrev pub IsForm : List ℕ → Type 0
-IsForm bytes = isFault (walkedForm bytes) ≡ false
-
--- The refusal of a form's bytes, or 0.
-abbrev pub formFault : List ℕ → ℕ
-formFault bytes = layoutOf (walkedForm bytes)
+use Rattle.form_calls.specs.declared.FormPoints.{FormPoints}
+use Rattle.form_calls.specs.declared.FormRewrite.{FormRewrite}
 
 -- The points of the form that the bytes stand for, rising.
 abbrev pub pointsRead : List ℕ → List ℕ

@@ -1,11 +1,11 @@
--- `form::still_holds` meets its contract: the factor counts only where the product held the point so far. Assumes nothing.
+-- `form_calls::still_holds` meets its contract: the factor counts only where the product held the point so far. Assumes nothing.
 use mathlib.Core.Path.{ap, _∙_}
 use borrow.Author.Needs.{needs}
 use borrow.Author.Tests.{not-true, not-false}
 use Rattle.product.specs.Product.{Factor, factorAt}
 use Rattle.form.proofs.Walking.{factor-read}
-use Rattle.form.proofs.still_holds.Statement.{statement}
-use Rattle.form.proofs.still_holds.Tie as tie
+use Rattle.form_calls.proofs.still_holds.Statement.{statement}
+use Rattle.form_calls.proofs.still_holds.Tie as tie
 
 returns : tie.Need-returns
 returns c = rw (not-true (c .before .before .args .holds) (c .if1 .taken))

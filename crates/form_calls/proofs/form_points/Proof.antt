@@ -1,4 +1,4 @@
--- `form::form_points` meets its contract: the form's own refusal, then the room's, decide; the points below 2 ^ n are those of the form.
+-- `form_calls::form_points` meets its contract: the form's own refusal, then the room's, decide; the points below 2 ^ n are those of the form.
 -- Assumes nothing.
 use mathlib.Core.Path.{_≡_, refl, sym, ap, _∙_}
 use mathlib.Core.List.{List}
@@ -8,12 +8,14 @@ use borrow.Author.Needs.{needs}
 use lib.ListN.{length}
 use Rattle.gf2.specs.Finite.{select}
 use Rattle.table.specs.Decision.{front}
 use Rattle.form.specs.Form.{formAt}
 use Rattle.form.specs.Decoding.{formVariables, decodeForm}
-use Rattle.form.specs.Reading.{IsForm, formFault, pointsRead}
-use Rattle.form.proofs.Answering.{accepted-form, form-begins, points-below, points-ways}
-use Rattle.form.proofs.form_points.Statement.{statement}
-use Rattle.form.proofs.form_points.Tie as tie
+use Rattle.form.specs.Refusal.{IsForm, formFault}
+use Rattle.form.proofs.Accepting.{accepted-form, form-begins}
+use Rattle.form_calls.specs.Reading.{pointsRead}
+use Rattle.form_calls.proofs.Answering.{points-below, points-ways}
+use Rattle.form_calls.proofs.form_points.Statement.{statement}
+use Rattle.form_calls.proofs.form_points.Tie as tie
 
 form-fault-requires : tie.Need-form-fault-requires
 form-fault-requires c κs = search needs

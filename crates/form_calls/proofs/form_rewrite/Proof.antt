@@ -1,4 +1,4 @@
--- `form::form_rewrite` meets its contract: the form's own refusal, then the room's, decide; what was read is written as the bytes that were
+-- `form_calls::form_rewrite` meets its contract: the form's own refusal, then the room's, decide; what was read is written as the bytes that were
 -- read. Assumes nothing.
 use mathlib.Core.Path.{_≡_, refl, sym, ap, _∙_}
 use mathlib.Core.List.{List, _++_}
@@ -8,11 +8,13 @@ use borrow.Author.Needs.{needs}
 use lib.ListN.{length, drop}
 use lib.Seq.{take-length}
 use Rattle.table.specs.Decision.{front}
-use Rattle.form.specs.Reading.{formFault, rewritten}
+use Rattle.form.specs.Refusal.{formFault}
 use Rattle.form.proofs.Encodings.{rewritten-same}
-use Rattle.form.proofs.Answering.{accepted-form, slice-bytes, rewrite-ways}
-use Rattle.form.proofs.form_rewrite.Statement.{statement}
-use Rattle.form.proofs.form_rewrite.Tie as tie
+use Rattle.form.proofs.Accepting.{accepted-form}
+use Rattle.form_calls.specs.Reading.{rewritten}
+use Rattle.form_calls.proofs.Answering.{slice-bytes, rewrite-ways}
+use Rattle.form_calls.proofs.form_rewrite.Statement.{statement}
+use Rattle.form_calls.proofs.form_rewrite.Tie as tie
 
 form-fault-requires : tie.Need-form-fault-requires
 form-fault-requires c κs = search needs

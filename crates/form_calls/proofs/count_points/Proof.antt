@@ -1,4 +1,4 @@
--- `form::count_points` meets its contract: the points passed are counted. Assumes nothing.
+-- `form_calls::count_points` meets its contract: the points passed are counted. Assumes nothing.
 use Prim.Native.Nat.{ℕ, _≤_, _-_}
 use mathlib.Core.Path.{_≡_, refl, sym, ap, _∙_}
 use mathlib.Core.Bool.{true, false}
@@ -9,10 +9,10 @@ use lib.ListN.{length}
 use Rattle.gf2.specs.Finite.{select}
 use Rattle.gf2.proofs.Finite.{select-length}
 use Rattle.table.proofs.Selecting.{count-step}
 use Rattle.form.specs.Form.{formAt}
 use Rattle.form.specs.Decoding.{decodeForm}
-use Rattle.form.proofs.count_points.Statement.{statement}
-use Rattle.form.proofs.count_points.Tie as tie
+use Rattle.form_calls.proofs.count_points.Statement.{statement}
+use Rattle.form_calls.proofs.count_points.Tie as tie
 
 abbrev Inv-loop : tie.InvT-loop
 Inv-loop bytes size count₀ point₀ count point = (point ≤ size) × (count ≡ length (select (formAt (decodeForm bytes)) point))
