@@ -14,9 +14,9 @@ ghost use Rattle.records.specs.Walks.{bodyStep};
 ghost use Rattle.form.specs.Walk.{behind, variablesStep, firstFormStep, factorStep, productStep, formStep, walkFormFrom, walkedForm};
 ghost use Rattle.form.specs.Counting.{Counted, behindBy, countsAfter, factorLength, factorsBefore};
 use records::FACTOR_KIND;
-use records::Head;
 use records::Kind;
 use records::PRODUCT_KIND;
+use records::RecordHead;
 use records::Step;
 use records::Walk;
 
@@ -58,8 +58,8 @@ fn first_step(bytes: &[u8]) -> Step
     ensures { λ r. ⌜ r ≡ firstFormStep (getD (now (bytes .entry)) 0 0) (drop 1 (now (bytes .entry))) ⌝ }
 {
     match records::head_of(bytes[0], 0) {
-        Head::Refused(fault) => Step::Stop(fault),
-        Head::Known(kind, body) => match kind {
+        RecordHead::Refused(fault) => Step::Stop(fault),
+        RecordHead::Known(kind, body) => match kind {
             Kind::Variables => variables_step(bytes, body),
             _ => Step::Stop(Walk::WrongKind(0)),
         },
@@ -168,8 +168,8 @@ fn record_step(bytes: &[u8], n: usize, counts: Counts, place: usize) -> Step
         ⌝ }
 {
     match records::head_of(bytes[place], place) {
-        Head::Refused(fault) => Step::Stop(fault),
-        Head::Known(kind, body) => match kind {
+        RecordHead::Refused(fault) => Step::Stop(fault),
+        RecordHead::Known(kind, body) => match kind {
             Kind::Product => product_step(bytes, counts.products, place, body),
             Kind::Factor => factor_step(bytes, n, counts, place, body),
             Kind::End => records::end_step(bytes, counts.products, place, body),

@@ -9,8 +9,8 @@ use borrow.Author.Tests.{eqb-true}
 use Rattle.records.specs.declared.Kind.{Kind}
 use Rattle.records.specs.declared.Kind.the-variants.{Variables, Product, Factor, End, On, Free}
 use Rattle.records.specs.declared.Walk.the-variants.{WrongKind}
-use Rattle.records.specs.declared.Head.{Head}
-use Rattle.records.specs.declared.Head.the-variants.{Known, Refused}
+use Rattle.records.specs.declared.RecordHead.{RecordHead}
+use Rattle.records.specs.declared.RecordHead.the-variants.{Known, Refused}
 use Rattle.records.specs.Kinds.{variablesKind, productKind, factorKind, endKind, onKind, freeKind, bodyLength, known, headOf, wordOf, lowByte, highByte}
 
 -- The byte of a kind.
@@ -33,7 +33,7 @@ head-byte On place = refl
 head-byte Free place = refl
 
 -- What is decided: a kind that has this byte, with the length of its body, or that the kind at the place is wrong.
-abbrev Decided : ℕ → ℕ → Head → Type 0
+abbrev Decided : ℕ → ℕ → RecordHead → Type 0
 Decided byte place (Known kind l) = (byte ≡ kindByte kind) × (l ≡ bodyLength kind)
 Decided byte place (Refused fault) = fault ≡ WrongKind place
 
@@ -47,7 +47,7 @@ decided byte place =
     (tested (eqb byte onKind) On _ (eqb-true byte onKind)
     (tested (eqb byte freeKind) Free _ (eqb-true byte freeKind) refl)))))
   where
-    tested : (t : Bool) (kind : Kind) (other : Head) → (t ≡ true → byte ≡ kindByte kind) → Decided byte place other → Decided byte place (cond t (known kind) other)
+    tested : (t : Bool) (kind : Kind) (other : RecordHead) → (t ≡ true → byte ≡ kindByte kind) → Decided byte place other → Decided byte place (cond t (known kind) other)
     tested true kind other p q = (p refl, refl)
     tested false kind other p q = q
 
@@ -55,10 +55,10 @@ pub head-known : (byte place : ℕ) {kind : Kind} {l : ℕ} → headOf byte plac
 head-known byte place e = subst (Decided byte place) e (decided byte place)
 
 -- Whatever holds of each known kind that has the byte, and of the refusal, holds of the decision.
-pub head-cases : (Q : Head → Type 0) (byte place : ℕ) → ((kind : Kind) → byte ≡ kindByte kind → Q (known kind)) → Q (Refused (WrongKind place)) → Q (headOf byte place)
+pub head-cases : (Q : RecordHead → Type 0) (byte place : ℕ) → ((kind : Kind) → byte ≡ kindByte kind → Q (known kind)) → Q (Refused (WrongKind place)) → Q (headOf byte place)
 head-cases Q byte place f g = go (headOf byte place) (decided byte place)
   where
-    go : (h : Head) → Decided byte place h → Q h
+    go : (h : RecordHead) → Decided byte place h → Q h
     go (Known kind l) d = rw (d .1) (f kind (d .0))
     go (Refused fault) d = rw d g
 

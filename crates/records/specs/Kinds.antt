@@ -8,8 +8,8 @@ use Rattle.gf2.specs.Finite.{Mem}
 use Rattle.records.specs.declared.Kind.{Kind}
 use Rattle.records.specs.declared.Kind.the-variants.{Variables, Product, Factor, End, On, Free}
 use Rattle.records.specs.declared.Walk.the-variants.{WrongKind}
-use Rattle.records.specs.declared.Head.{Head}
-use Rattle.records.specs.declared.Head.the-variants.{Known, Refused}
+use Rattle.records.specs.declared.RecordHead.{RecordHead}
+use Rattle.records.specs.declared.RecordHead.the-variants.{Known, Refused}
 
 -- The kind bytes: n, a product begins, a factor, the end with its number, an on point, a free point (document 01, "The written form").
 abbrev pub variablesKind : ℕ
@@ -40,12 +40,12 @@ bodyLength On = 2
 bodyLength Free = 2
 
 -- A known kind with the length of its body.
-abbrev pub known : Kind → Head
+abbrev pub known : Kind → RecordHead
 known kind = Known kind (bodyLength kind)
 
 -- The decision over the kind byte, which stands at the place: it gives the kind with the length of its body, or the refusal of an unknown
 -- kind (document 01, "Forms and where they belong"). What a table or a form makes of a known kind is decided after it.
-unfoldable pub headOf : ℕ → ℕ → Head
+unfoldable pub headOf : ℕ → ℕ → RecordHead
 headOf byte place =
     cond (eqb byte variablesKind) (known Variables)
     (cond (eqb byte productKind) (known Product)

@@ -8,8 +8,8 @@ use lib.Dec.{eqb, leb}
 use lib.ListN.{length, getD, drop}
 use Rattle.table.specs.Refusal.{Test, test, firstFault, layoutFault}
 use Rattle.records.specs.declared.Kind.{Kind}
-use Rattle.records.specs.declared.Head.{Head}
-use Rattle.records.specs.declared.Head.the-variants.{Known, Refused}
+use Rattle.records.specs.declared.RecordHead.{RecordHead}
+use Rattle.records.specs.declared.RecordHead.the-variants.{Known, Refused}
 use Rattle.records.specs.declared.Walk.{Walk}
 use Rattle.records.specs.declared.Walk.the-variants.{Laid, WrongKind, Missing, WrongVariables, WrongFactor, NotCanonical, WrongCount, After, TooMany}
 use Rattle.records.specs.declared.Step.{Step}
@@ -17,7 +17,7 @@ use Rattle.records.specs.declared.Step.the-variants.{Whole, Stop}
 use Rattle.records.specs.Kinds.{wordOf}
 
 -- A record by the decision over its kind byte: an unknown kind is refused, and a known one judged with the length of its body.
-abbrev pub headStep : Head → (Kind → ℕ → Step) → Step
+abbrev pub headStep : RecordHead → (Kind → ℕ → Step) → Step
 headStep (Known kind l) judge = judge kind l
 headStep (Refused fault) judge = Stop fault
 

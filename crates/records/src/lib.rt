@@ -50,23 +50,23 @@ pub enum Walk {
 }
 
 // What the kind byte of a record decides: its kind with the length of its body, or the refusal of an unknown kind.
-pub enum Head {
+pub enum RecordHead {
     Known(Kind, usize),
     Refused(Walk),
 }
 
 // The decision over the kind byte, which stands at the place. No other function refuses an unknown kind.
-pub fn head_of(byte: u8, place: usize) -> Head
+pub fn head_of(byte: u8, place: usize) -> RecordHead
     ensures { λ r. ⌜ r ≡ headOf byte place ⌝ }
 {
     match byte {
-        VARIABLES_KIND => Head::Known(Kind::Variables, 1),
-        PRODUCT_KIND => Head::Known(Kind::Product, 0),
-        FACTOR_KIND => Head::Known(Kind::Factor, 3),
-        END_KIND => Head::Known(Kind::End, 2),
-        ON_KIND => Head::Known(Kind::On, 2),
-        FREE_KIND => Head::Known(Kind::Free, 2),
-        _ => Head::Refused(Walk::WrongKind(place)),
+        VARIABLES_KIND => RecordHead::Known(Kind::Variables, 1),
+        PRODUCT_KIND => RecordHead::Known(Kind::Product, 0),
+        FACTOR_KIND => RecordHead::Known(Kind::Factor, 3),
+        END_KIND => RecordHead::Known(Kind::End, 2),
+        ON_KIND => RecordHead::Known(Kind::On, 2),
+        FREE_KIND => RecordHead::Known(Kind::Free, 2),
+        _ => RecordHead::Refused(Walk::WrongKind(place)),
     }
 }
 

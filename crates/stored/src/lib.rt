@@ -11,8 +11,8 @@ ghost use Rattle.stored.specs.Marks.{noMark, marks, markedPoints, stored
 ghost use Rattle.stored.specs.Reading.{readFault, readAnswer, readOnAfter, readFreeAfter};
 ghost use Rattle.stored.specs.Stored.{LaidOut, storedFault};
 ghost use Rattle.stored.specs.Layout.{firstTableStep, tableStep, walkTableFrom, walked};
-use records::Head;
 use records::Kind;
+use records::RecordHead;
 use records::Step;
 use records::WORD_RECORD_LENGTH;
 use records::Walk;
@@ -40,8 +40,8 @@ fn first_step(bytes: &[u8]) -> Step
     ensures { λ r. ⌜ r ≡ firstTableStep (getD (now (bytes .entry)) 0 0) (drop 1 (now (bytes .entry))) ⌝ }
 {
     match records::head_of(bytes[0], 0) {
-        Head::Refused(fault) => Step::Stop(fault),
-        Head::Known(kind, body) => match kind {
+        RecordHead::Refused(fault) => Step::Stop(fault),
+        RecordHead::Known(kind, body) => match kind {
             Kind::Variables => records::body_step(bytes, 0, body),
             _ => Step::Stop(Walk::WrongKind(0)),
         },
@@ -57,8 +57,8 @@ fn record_step(bytes: &[u8], count: usize, place: usize) -> Step
         return Step::Stop(Walk::After(place));
     }
     match records::head_of(bytes[place], place) {
-        Head::Refused(fault) => Step::Stop(fault),
-        Head::Known(kind, body) => match kind {
+        RecordHead::Refused(fault) => Step::Stop(fault),
+        RecordHead::Known(kind, body) => match kind {
             Kind::On => records::body_step(bytes, place, body),
             Kind::Free => records::body_step(bytes, place, body),
             Kind::End => records::end_step(bytes, count, place, body),

@@ -12,7 +12,7 @@ use Rattle.records.specs.Kinds.{bodyLength, headOf}
 use Rattle.records.proofs.Kind.{the-type}
 use Rattle.records.proofs.KindBytes.{head-known}
 use Rattle.records.specs.declared.Walk.the-variants.{WrongKind}
-use Rattle.records.specs.declared.Head.the-variants.{Known}
+use Rattle.records.specs.declared.RecordHead.the-variants.{Known}
 use Rattle.records.specs.declared.Step.the-variants.{Stop}
 use Rattle.form.specs.Walk.{firstFormKind}
 use Rattle.form.proofs.first_step.Statement.{statement}

@@ -11,7 +11,7 @@ use Rattle.records.specs.declared.Kind.{Kind}
 use Rattle.records.specs.declared.Kind.the-variants.{Variables, Product, Factor, End, On, Free}
 use Rattle.records.proofs.Kind.{the-type}
 use Rattle.records.specs.declared.Walk.the-variants.{WrongKind}
-use Rattle.records.specs.declared.Head.the-variants.{Known}
+use Rattle.records.specs.declared.RecordHead.the-variants.{Known}
 use Rattle.records.specs.declared.Step.the-variants.{Stop}
 use Rattle.records.specs.Kinds.{bodyLength, headOf}
 use Rattle.records.proofs.KindBytes.{head-known}
