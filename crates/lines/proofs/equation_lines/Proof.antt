@@ -28,10 +28,15 @@ mul-equation-line c = search needs
 shared-slice-read-equation-line : tie.Need-shared-slice-read-equation-line Inv-loop μ-loop
 shared-slice-read-equation-line c = search needs
 
+-- Where the call began, from the loop.
+abbrev start : tie.At-loop Inv-loop μ-loop → tie.Start Inv-loop μ-loop
+start c = c .before .before .before
+
 equation-line-requires : tie.Need-equation-line-requires Inv-loop μ-loop
 equation-line-requires c κs =
-    let l = c .before .before .before .loop in
-    let s = c .before .before .before .before .before .before in
+    let k = c .before .before .before in
+    let l = k .loop in
+    let s = start k in
     let a = s .args in
     (s .pre .0, room-piece (equationAt (a .n) 1 (a .masks .now)) (l .i) (length (a .masks .now)) (equation-pieces (a .n) 1 (a .masks .now)) (s .pre .1) (omega arith) (l .inv .1))
 
@@ -43,8 +48,9 @@ loop-less c = search needs
 
 loop-again : tie.Need-loop-again Inv-loop μ-loop
 loop-again c =
-    let l = c .before .before .before .before .before .before .loop in
-    let a = c .before .before .before .before .before .before .before .before .before .args in
+    let k = c .before .before .before .before .before .before in
+    let l = k .loop in
+    let a = start k .args in
     (omega arith, wrote-piece (equationAt (a .n) 1 (a .masks .now)) (l .i) (l .inv .1) (c .before .before .equation-line .ensures))
 
 same-length : tie.Need-same-length Inv-loop μ-loop
@@ -53,7 +59,7 @@ same-length c = wrote-length (c .before .loop .inv .1)
 returns : tie.Need-returns Inv-loop μ-loop
 returns c =
     let l = c .before .loop in
-    let s = c .before .before .before .before in
+    let s = start (c .before) in
     let a = s .args in
     wrote-pieces (equationAt (a .n) 1 (a .masks .now)) (l .i) (length (a .masks .now)) (equation-pieces (a .n) 1 (a .masks .now)) (omega arith) (l .inv .1)
 

@@ -31,10 +31,15 @@ mul-factor-text-2 c = search needs
 shared-slice-read-factor-text-2 : tie.Need-shared-slice-read-factor-text-2 Inv-loop μ-loop
 shared-slice-read-factor-text-2 c = search needs
 
+-- Where the call began, from the loop.
+abbrev start : tie.At-loop Inv-loop μ-loop → tie.Start Inv-loop μ-loop
+start c = c .before .before .before .before
+
 factor-text-requires : tie.Need-factor-text-requires Inv-loop μ-loop
 factor-text-requires c κs =
-    let l = c .before .before .before .before .loop in
-    let s = c .before .before .before .before .before .before .before .before in
+    let k = c .before .before .before .before in
+    let l = k .loop in
+    let s = start k in
     let a = s .args in
     (s .pre .0, room-piece (factorAt (a .n) (a .constants .now) (a .masks .now)) (l .i) (length (a .masks .now)) (factors-pieces (a .n) (a .constants .now) (a .masks .now) (s .pre .1 .0)) (s .pre .1 .1) (omega arith) (l .inv .1))
 
@@ -46,9 +51,11 @@ loop-less c = search needs
 
 loop-again : tie.Need-loop-again Inv-loop μ-loop
 loop-again c =
-    let l = c .before .before .before .before .before .before .before .loop in
-    let a = c .before .before .before .before .before .before .before .before .before .before .before .args in
-    (omega arith, wrote-piece (factorAt (a .n) (a .constants .now) (a .masks .now)) (l .i) (l .inv .1) (c .before .before .factor-text .ensures))
+    let f = c .before .before in
+    let k = f .before .before .before .before .before in
+    let l = k .loop in
+    let a = start k .args in
+    (omega arith, wrote-piece (factorAt (a .n) (a .constants .now) (a .masks .now)) (l .i) (l .inv .1) (f .factor-text .ensures))
 
 same-length : tie.Need-same-length Inv-loop μ-loop
 same-length c = wrote-length (c .before .loop .inv .1)
@@ -56,7 +63,7 @@ same-length c = wrote-length (c .before .loop .inv .1)
 returns : tie.Need-returns Inv-loop μ-loop
 returns c =
     let l = c .before .loop in
-    let s = c .before .before .before .before .before in
+    let s = start (c .before) in
     let a = s .args in
     wrote-pieces (factorAt (a .n) (a .constants .now) (a .masks .now)) (l .i) (length (a .masks .now)) (factors-pieces (a .n) (a .constants .now) (a .masks .now) (s .pre .1 .0)) (omega arith) (l .inv .1)
 

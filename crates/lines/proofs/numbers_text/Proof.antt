@@ -22,8 +22,9 @@ same-length c = search needs
 
 returns : tie.Need-returns
 returns c =
-    let a = c .before .before .before .before .before .before .before .before .args in
-    wrote-same (list-none noneWord spaced (a .numbers .now) (omega arith)) (c .before .before .write-word .ensures)
+    let w = c .before .before in
+    let a = w .before .before .before .before .before .before .args in
+    wrote-same (list-none noneWord spaced (a .numbers .now) (omega arith)) (w .write-word .ensures)
 
 write-numbers-requires : tie.Need-write-numbers-requires
 write-numbers-requires c κs =
@@ -35,8 +36,10 @@ same-length-2 c = search needs
 
 returns-2 : tie.Need-returns-2
 returns-2 c =
-    let a = c .before .before .before .before .before .before .before .args in
-    wrote-same (list-some noneWord spaced (a .numbers .now) (c .before .before .before .before .if1 .left)) (c .before .before .write-numbers .ensures)
+    let w = c .before .before in
+    let e = w .before .before in
+    let a = e .before .before .before .args in
+    wrote-same (list-some noneWord spaced (a .numbers .now) (e .if1 .left)) (w .write-numbers .ensures)
 
 pub numbers-text-spec : {M : Type 1} → statement M
 numbers-text-spec =

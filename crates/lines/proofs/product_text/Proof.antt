@@ -25,9 +25,11 @@ same-length c = search needs
 
 returns : tie.Need-returns
 returns c =
-    let s = c .before .before .before .before .before .before .before .before .before in
+    let w = c .before .before in
+    let t = w .before .before .before in
+    let s = t .before .before .before .before in
     let a = s .args in
-    wrote-same (list-none oneWord (flatMap (factorText (a .n))) (zipWith factor (a .constants .now) (a .masks .now)) (zip-length (a .constants .now) (a .masks .now) (s .pre .1 .0) ∙ omega arith)) (c .before .before .write-word .ensures)
+    wrote-same (list-none oneWord (flatMap (factorText (a .n))) (zipWith factor (a .constants .now) (a .masks .now)) (zip-length (a .constants .now) (a .masks .now) (s .pre .1 .0) ∙ omega arith)) (w .write-word .ensures)
 
 factors-text-requires : tie.Need-factors-text-requires
 factors-text-requires c κs =
@@ -40,9 +42,11 @@ same-length-2 c = search needs
 
 returns-2 : tie.Need-returns-2
 returns-2 c =
-    let s = c .before .before .before .before .before .before .before .before in
+    let w = c .before .before in
+    let e = w .before .before in
+    let s = e .before .before .before .before in
     let a = s .args in
-    wrote-same (list-some oneWord (flatMap (factorText (a .n))) (zipWith factor (a .constants .now) (a .masks .now)) (λ e. c .before .before .before .before .if1 .left (sym (zip-length (a .constants .now) (a .masks .now) (s .pre .1 .0)) ∙ e))) (c .before .before .factors-text .ensures)
+    wrote-same (list-some oneWord (flatMap (factorText (a .n))) (zipWith factor (a .constants .now) (a .masks .now)) (λ z. e .if1 .left (sym (zip-length (a .constants .now) (a .masks .now) (s .pre .1 .0)) ∙ z))) (w .factors-text .ensures)
 
 pub product-text-spec : {M : Type 1} → statement M
 product-text-spec =

@@ -1,8 +1,11 @@
 -- `lines::variables_text` meets its contract: the names of the mask's variables are written. Assumes nothing.
-use mathlib.Core.Path.{sym, ap}
+use mathlib.Core.Path.{_≡_, sym, ap}
+use mathlib.Core.List.{List}
+use Prim.Native.Nat.{ℕ}
 use borrow.Author.Needs.{needs}
 use Rattle.gf2.specs.Bits.{bit}
 use Rattle.gf2.specs.Basis.{placesAt, variablesAt}
+use Rattle.basis.specs.Short.{short}
 use Rattle.basis.proofs.Values.{short-part, short-fits}
 use Rattle.text.specs.Pieces.{names}
 use Rattle.text.proofs.Writing.{room-same, wrote-same}
@@ -19,18 +22,30 @@ sub-write-names c = search needs
 part-write-names-start : tie.Need-part-write-names-start
 part-write-names-start c = search needs
 
+-- The variables of the mask are found.
+module _ (c : tie.After-variables-of) where
+  abbrev start : tie.Start
+  start = c .before .before .before
+
+  abbrev variables : List ℕ
+  variables = variablesAt (start .args .n) (placesAt (start .args .n) (λ k. bit k (start .args .mask)))
+
+  found : c .variables-of .result ≡ short variables
+  found = c .variables-of .ensures
+
 part-write-names-end : tie.Need-part-write-names-end
-part-write-names-end c =
-    let a = c .before .before .before .before .before .before .args in
-    short-fits (c .before .before .before .variables-of .result) (variablesAt (a .n) (placesAt (a .n) (λ k. bit k (a .mask)))) (c .before .before .before .variables-of .ensures)
+part-write-names-end c = let v = c .before .before .before in short-fits (v .variables-of .result) (variables v) (found v)
+
+-- Where they were found, from the station that writes their names.
+abbrev written : tie.After-write-names-arg2 → tie.After-variables-of
+written c = c .before .before .before .before
 
 write-names-requires : tie.Need-write-names-requires
 unfolding variablesText
 write-names-requires c κs =
-    let s = c .before .before .before .before .before .before .before in
-    let a = s .args in
-    let v = c .before .before .before .before .variables-of in
-    room-same (ap (names (a .between .now)) (sym (short-part (v .result) (variablesAt (a .n) (placesAt (a .n) (λ k. bit k (a .mask)))) (v .ensures)))) (s .pre .1)
+    let v = written c in
+    let s = start v in
+    room-same (ap (names (s .args .between .now)) (sym (short-part (v .variables-of .result) (variables v) (found v)))) (s .pre .1)
 
 same-length : tie.Need-same-length
 same-length c = search needs
@@ -38,9 +53,9 @@ same-length c = search needs
 returns : tie.Need-returns
 unfolding variablesText
 returns c =
-    let a = c .before .before .before .before .before .before .before .before .before .before .args in
-    let v = c .before .before .before .before .before .before .before .variables-of in
-    wrote-same (ap (names (a .between .now)) (short-part (v .result) (variablesAt (a .n) (placesAt (a .n) (λ k. bit k (a .mask)))) (v .ensures))) (c .before .before .write-names .ensures)
+    let w = c .before .before in
+    let v = written (w .before) in
+    wrote-same (ap (names (start v .args .between .now)) (short-part (v .variables-of .result) (variables v) (found v))) (w .write-names .ensures)
 
 pub variables-text-spec : {M : Type 1} → statement M
 variables-text-spec =

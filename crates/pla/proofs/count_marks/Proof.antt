@@ -55,9 +55,10 @@ loop-less c = search needs
 
 loop-again : tie.Need-loop-again Inv-loop μ-loop
 loop-again c =
-    let l = c .before .before .before .before .before .before .loop in
+    let k = c .before .before .before .before .before .before in
+    let l = k .loop in
     let mark-count = c .mark-count in
-    let args = c .before .before .before .before .before .before .before .before .args in
+    let args = k .before .before .args in
     let one = rw (c .before .is-free .ensures) at (mark-count .ensures .0 (l .p)) in
     (omega arith, l .inv .1, l .inv .2, omega (arith, l .inv .3, mark-count .ensures .1), omega (arith, l .inv .4, one, count-next (flagOn (args .t3)) (flagFree (args .kind) (args .t3)) (l .p)))
 

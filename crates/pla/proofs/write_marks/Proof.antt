@@ -1,8 +1,8 @@
 -- `pla::write_marks` meets its contract. The loop's invariant: the records of the points passed are written. Assumes nothing.
-use mathlib.Core.Path.{_≡_, sym, ap, _∙_}
-use mathlib.Core.Bool.{false}
+use mathlib.Core.Path.{_≡_, sym, ap, ap₂, _∙_}
+use mathlib.Core.Bool.{Bool, false}
 use mathlib.Core.List.{List}
-use Prim.Native.Nat.{_+_, _-_, _≤_, _<_, _^_}
+use Prim.Native.Nat.{ℕ, _+_, _-_, _≤_, _<_, _^_}
 use native.Mathlib.Omega.{arith}
 use borrow.Author.Needs.{needs}
 use lib.ListN.{length, getD}
@@ -55,18 +55,40 @@ element-copy-out-is-free-2 c = omega (arith, c .before .before .before .flag-pla
 is-free-requires : tie.Need-is-free-requires Inv-loop μ-loop
 is-free-requires c κs = search needs
 
+-- In the loop: where the call began, and how long the room is.
+module _ (c : tie.At-loop Inv-loop μ-loop) where
+  abbrev start : tie.Start Inv-loop μ-loop
+  start = c .before .before .before
+
+  abbrev on : ℕ → Bool
+  on = flagOn (start .args .t3)
+
+  abbrev free : ℕ → Bool
+  free = flagFree (start .args .kind) (start .args .t3)
+
+  long : length (c .loop .room) ≡ length (start .args .room .now)
+  long = ap length (c .loop .inv .4) ∙ length-sets (start .args .room .now) firstPoint (encodeMarks (marksBelow on free (c .loop .p)))
+
+-- The point's mark is found.
+module _ (c : tie.After-is-free Inv-loop μ-loop) where
+  abbrev placed : tie.After-flag-place Inv-loop μ-loop
+  placed = c .before .before .before .before .before
+
+  abbrev turn : tie.At-loop Inv-loop μ-loop
+  turn = placed .before .before
+
+  mark : let p = turn .loop .p in markOf (getD (start turn .args .t3 .one) (placed .flag-place .result) false) (c .is-free .result) p ≡ markOf (on turn p) (free turn p) p
+  mark =
+      let p = turn .loop .p in
+      ap₂ (λ (o f : Bool). markOf o f p) (ap (on turn) (placed .flag-place .ensures)) (c .is-free .ensures ∙ ap (free turn) (placed .flag-place .ensures))
+
 write-mark-requires : tie.Need-write-mark-requires Inv-loop μ-loop
 write-mark-requires c κs =
-    let args = c .before .before .before .before .before .before .before .before .before .before .args in
-    let flag-place = c .before .before .before .before .before .flag-place in
-    let is-free = c .is-free in
-    let loop = c .before .before .before .before .before .before .before .loop in
-    let pre = c .before .before .before .before .before .before .before .before .before .before .pre in
-    let m : markOf (getD (args .t3 .one) (flag-place .result) false) (is-free .result) (loop .p) ≡ markOf (flagOn (args .t3) (loop .p)) (flagFree (args .kind) (args .t3) (loop .p))
-    (loop .p) = rw (is-free .ensures, flag-place .ensures) in
-    let size : loop .p < 2 ^ args .n = omega (arith, loop .inv .1) in
-    let long = ap length (loop .inv .4) ∙ length-sets (args .room .now) firstPoint (encodeMarks (marksBelow (flagOn (args .t3)) (flagFree (args .kind) (args .t3)) (loop .p))) in
-    omega (arith, pre .1, loop .inv .3, long, records-fit (flagOn (args .t3)) (flagFree (args .kind) (args .t3)) (loop .p) (2 ^ args .n) size, ap (λ (ms : List Mark). length (encodeMarks ms)) m)
+    let k = turn c in
+    let s = start k in
+    let p = k .loop .p in
+    let size : p < 2 ^ s .args .n = omega (arith, k .loop .inv .1) in
+    omega (arith, s .pre .1, k .loop .inv .3, long k, records-fit (on k) (free k) p (2 ^ s .args .n) size, ap (λ (ms : List Mark). length (encodeMarks ms)) (mark c))
 
 add-p : tie.Need-add-p Inv-loop μ-loop
 add-p c = search needs
@@ -76,32 +98,26 @@ loop-less c = search needs
 
 loop-again : tie.Need-loop-again Inv-loop μ-loop
 loop-again c =
-    let args = c .before .before .before .before .before .before .before .before .before .before .before .before .before .args in
-    let flag-place = c .before .before .before .before .before .before .before .before .flag-place in
-    let is-free = c .before .before .before .is-free in
-    let loop = c .before .before .before .before .before .before .before .before .before .before .loop in
-    let write-mark = c .before .before .write-mark in
-    let on = flagOn (args .t3) in
-    let free = flagFree (args .kind) (args .t3) in
-    let m : markOf (getD (args .t3 .one) (flag-place .result) false) (is-free .result) (loop .p) ≡ markOf (on (loop .p)) (free (loop .p)) (loop .p) = rw (is-free .ensures, flag-place .ensures) in (
+    let w = c .before .before in
+    let f = w .before in
+    let k = turn f in
+    let p = k .loop .p in
+    let inv = k .loop .inv in (
       omega arith,
-      loop .inv .1,
-      loop .inv .2,
-      omega (arith, write-mark .ensures .0, loop .inv .3, ap (λ (ms : List Mark). length (encodeMarks ms)) m, bytes-next on free (loop .p)),
-      records-stored on free (args .room .now) (loop .p) (loop .inv .3) (loop .inv .4) m (write-mark .ensures .1),
+      inv .1,
+      inv .2,
+      omega (arith, w .write-mark .ensures .0, inv .3, ap (λ (ms : List Mark). length (encodeMarks ms)) (mark f), bytes-next (on k) (free k) p),
+      records-stored (on k) (free k) (start k .args .room .now) p (inv .3) (inv .4) (mark f) (w .write-mark .ensures .1),
     )
 
 same-length : tie.Need-same-length Inv-loop μ-loop
-same-length c =
-    let loop = c .before .loop in
-    let args = c .before .before .before .before .args in
-    ap length (loop .inv .4) ∙ length-sets (args .room .now) firstPoint (encodeMarks (marksBelow (flagOn (args .t3)) (flagFree (args .kind) (args .t3)) (loop .p)))
+same-length c = long (c .before)
 
 returns : tie.Need-returns Inv-loop μ-loop
 returns c =
-    let loop = c .before .loop in
-    let e : loop .p ≡ 2 ^ c .before .before .before .before .args .n = omega (arith, loop .inv .1) in
-    (rw e at (loop .inv .3), rw e at (loop .inv .4))
+    let k = c .before in
+    let e : k .loop .p ≡ 2 ^ start k .args .n = omega (arith, k .loop .inv .1) in
+    (rw e at (k .loop .inv .3), rw e at (k .loop .inv .4))
 
 pub write-marks-spec : {M : Type 1} → statement M
 write-marks-spec =

@@ -28,42 +28,45 @@ write-marks-requires c κs =
     let args = c .before .before .args in
     (pre .0, simp length-set (omega (arith, pre .1 .0, pre .1 .1, encode-length (flagMarks (args .kind) (args .n) (args .flags)))))
 
+-- The marks are written, where the call began, and the room is as long as it was.
+module _ (c : tie.After-write-marks) where
+  abbrev start : tie.Start
+  start = c .before .before .before
+
+  kept : length (c .write-marks .last .1 .1 .1 .0) ≡ length (start .args .room .now)
+  kept =
+      let lent = start .args .room .now in
+      let same : length (set (set lent 0 variablesKind) 1 (start .args .n)) ≡ length lent = simp length-set in
+      let left : length (c .write-marks .last .1 .1 .1 .0) ≡ length (set (set lent 0 variablesKind) 1 (start .args .n)) = search needs in
+      left ∙ same
+
 cast-put-end : tie.Need-cast-put-end
 cast-put-end c =
-    let pre = c .before .before .before .before .before .before .pre in
-    let args = c .before .before .before .before .before .before .args in
-    omega (arith, pre .1 .0, marks-few (flagOn (args .flags)) (flagFree (args .kind) (args .flags)) (2 ^ args .n), pow-mono (pre .0))
+    let s = start (c .before .before .before) in
+    let a = s .args in
+    omega (arith, s .pre .1 .0, marks-few (flagOn (a .flags)) (flagFree (a .kind) (a .flags)) (2 ^ a .n), pow-mono (s .pre .0))
 
 put-end-requires : tie.Need-put-end-requires
 put-end-requires c κs =
-    let args = c .before .before .before .before .before .before .args in
-    let write-marks = c .before .before .before .write-marks in
-    let pre = c .before .before .before .before .before .before .pre in
-    let lent = args .room .now in
-    let same : length (set (set lent 0 variablesKind) 1 (args .n)) ≡ length lent = simp length-set in
-    let kept : length (write-marks .last .1 .1 .1 .0) ≡ length (set (set lent 0 variablesKind) 1 (args .n)) = search needs in
-    let keeps = kept ∙ same in
-    omega (arith, keeps, write-marks .ensures .0, pre .1 .0, pre .1 .1, encode-length (flagMarks (args .kind) (args .n) (args .flags)))
+    let w = c .before .before .before in
+    let s = start w in
+    let a = s .args in
+    omega (arith, kept w, w .write-marks .ensures .0, s .pre .1 .0, s .pre .1 .1, encode-length (flagMarks (a .kind) (a .n) (a .flags)))
 
 same-length : tie.Need-same-length
 same-length c =
-    let args = c .before .before .before .before .before .before .before .before .before .args in
-    let write-marks = c .before .before .before .before .before .before .write-marks in
-    let lent = args .room .now in
-    let same : length (set (set lent 0 variablesKind) 1 (args .n)) ≡ length lent = simp length-set in
-    let kept : length (write-marks .last .1 .1 .1 .0) ≡ length (set (set lent 0 variablesKind) 1 (args .n)) = search needs in
-    let keeps = kept ∙ same in
-    let after : length (c .before .before .put-end .last .0) ≡ length (write-marks .last .1 .1 .1 .0) = search needs in
-    after ∙ keeps
+    let w = c .before .before .before .before .before .before in
+    let after : length (c .before .before .put-end .last .0) ≡ length (w .write-marks .last .1 .1 .1 .0) = search needs in
+    after ∙ kept w
 
 returns : tie.Need-returns
 returns c =
-    let s = c .before .before .before .before .before .before .before .before .before in
-    let args = s .args in
-    let write-marks = c .before .before .before .before .before .before .write-marks in
+    let w = c .before .before .before .before .before .before in
+    let s = start w in
+    let a = s .args in
     c .before .before .put-end .ensures
-    ∙ ap (λ (l : List ℕ). sets l (write-marks .result) (encodeEnd (args .count))) (write-marks .ensures .1)
-    ∙ table-written (args .room .now) (args .n) (flagMarks (args .kind) (args .n) (args .flags)) (args .count) (write-marks .result) (s .pre .1 .0) (write-marks .ensures .0) (s .pre .1 .1)
+    ∙ ap (λ (l : List ℕ). sets l (w .write-marks .result) (encodeEnd (a .count))) (w .write-marks .ensures .1)
+    ∙ table-written (a .room .now) (a .n) (flagMarks (a .kind) (a .n) (a .flags)) (a .count) (w .write-marks .result) (s .pre .1 .0) (w .write-marks .ensures .0) (s .pre .1 .1)
 
 pub write-table-spec : {M : Type 1} → statement M
 write-table-spec =

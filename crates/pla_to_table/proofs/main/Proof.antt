@@ -55,9 +55,14 @@ slice-aggregate-answer-text-2 c = search needs
 slice-aggregate-answer-text-3 : tie.Need-slice-aggregate-answer-text-3
 slice-aggregate-answer-text-3 c = search needs
 
+-- How much was read, from the station where the argument is known.
+abbrev counted : tie.After-argument3 → tie.After-count
+counted c = c .before .before .before .before .before .before
+
 answer-text-requires : tie.Need-answer-text-requires
 answer-text-requires c κs =
-    let inside = read-within _ _ (c .before .before .before .before .before .before .before .before .before .before .before .before .before .before .read-input .ensures) (c .before .before .before .before .before .before .before .before .before .before .before .count .given .1) in
+    let k = counted (c .before .before .before .before .before) in
+    let inside = read-within _ _ (k .before .before .before .read-input .ensures) (k .count .given .1) in
     (search needs, (inside, (search needs, search needs)))
 
 array-share-prefix-table : tie.Need-array-share-prefix-table

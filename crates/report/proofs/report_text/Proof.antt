@@ -1,10 +1,15 @@
 -- `report::report_text` meets its contract: the refusal alone, or the report of the table that was read. Assumes nothing.
-use mathlib.Core.Path.{sym}
-use Prim.Native.Nat.{ℕ}
+use mathlib.Core.Path.{_≡_, sym}
+use mathlib.Core.List.{List}
+use Prim.Native.Nat.{ℕ, _-_, _≤_}
 use borrow.Author.Needs.{needs}
-use lib.ListN.{replicate, length-replicate}
+use lib.ListN.{length, take, replicate, length-replicate}
+use Rattle.table.specs.Table.{Accepted}
 use Rattle.table.specs.Flags.{maxPoints}
 use Rattle.text.proofs.Writing.{room-same, wrote-same}
+use Rattle.stored.specs.declared.TableRead.{TableRead}
+use Rattle.table_report.specs.Text.{refusedLine, tableText}
+use Rattle.report.specs.Report.{reportText}
 use Rattle.report.proofs.Answering.{read-refused, read-table, read-text, on-fits, free-fits}
 use Rattle.report.proofs.report_text.Statement.{statement}
 use Rattle.report.proofs.report_text.Tie as tie
@@ -18,6 +23,31 @@ slice-aggregate-read-table-2 c = search needs
 read-table-requires : tie.Need-read-table-requires
 read-table-requires c κs = search needs
 
+-- The table is read into two arrays of zeros.
+abbrev zeros : List ℕ
+zeros = replicate maxPoints 0
+
+long : length zeros ≡ maxPoints
+long = length-replicate {A = ℕ} maxPoints 0
+
+module _ (c : tie.After-read-table) where
+  abbrev start : tie.Start
+  start = c .before .before .before .before .before
+
+  abbrev bytes : List ℕ
+  bytes = start .args .bytes .now
+
+  abbrev read : TableRead
+  read = c .read-table .result
+
+-- It is refused: the line of the refusal is the report.
+module _ (c : tie.Then1) where
+  abbrev tried : tie.After-read-table
+  tried = c .before .before .before
+
+  refused : refusedLine (read tried .refusal) ≡ reportText (bytes tried)
+  refused = read-refused (bytes tried) zeros zeros long long (read tried) (tried .read-table .ensures .0) (c .if1 .taken)
+
 slice-aggregate-number-line : tie.Need-slice-aggregate-number-line
 slice-aggregate-number-line c = search needs
 
@@ -25,23 +55,36 @@ cast-number-line : tie.Need-cast-number-line
 cast-number-line c = search needs
 
 number-line-requires : tie.Need-number-line-requires
-number-line-requires c κs =
-    let s = c .before .before .before .before .before .before .before .before .before .before in
-    let d = c .before .before .before .before .before .read-table in
-    let zeros = replicate {A = ℕ} maxPoints 0 in
-    let long = length-replicate {A = ℕ} maxPoints 0 in
-    room-same (sym (read-refused (s .args .bytes .now) zeros zeros long long (d .result) (d .ensures .0) (c .before .before .if1 .taken))) (s .pre)
+number-line-requires c κs = let t = c .before .before in room-same (sym (refused t)) (start (tried t) .pre)
 
 same-length : tie.Need-same-length
 same-length c = search needs
 
 returns : tie.Need-returns
-returns c =
-    let s = c .before .before .before .before .before .before .before .before .before .before .before .before .before in
-    let d = c .before .before .before .before .before .before .before .before .read-table in
-    let zeros = replicate {A = ℕ} maxPoints 0 in
-    let long = length-replicate {A = ℕ} maxPoints 0 in
-    wrote-same (read-refused (s .args .bytes .now) zeros zeros long long (d .result) (d .ensures .0) (c .before .before .before .before .before .if1 .taken)) (c .before .before .number-line .ensures)
+returns c = let l = c .before .before in wrote-same (refused (l .before .before .before)) (l .number-line .ensures)
+
+-- It is read: its points are at the front of the two arrays, it is accepted, and its text is the report.
+module _ (c : tie.Else1) where
+  abbrev reading : tie.After-read-table
+  reading = c .before .before .before
+
+  abbrev on : List ℕ
+  on = reading .read-table .last .1 .0
+
+  abbrev free : List ℕ
+  free = reading .read-table .last .1 .1 .0
+
+  on-there : read reading .«on_count» ≤ length on
+  on-there = let e = reading .read-table .ensures in on-fits (bytes reading) zeros zeros long long (read reading) (e .0) (c .if1 .left) on free (e .1 .0) (e .1 .1)
+
+  free-there : read reading .«free_count» ≤ length free
+  free-there = let e = reading .read-table .ensures in free-fits (bytes reading) zeros zeros long long (read reading) (e .0) (c .if1 .left) on free (e .1 .0) (e .1 .1)
+
+  table : let r = read reading in Accepted (r .variables) (take (r .«on_count» - 0) on) (take (r .«free_count» - 0) free)
+  table = let e = reading .read-table .ensures in read-table (bytes reading) zeros zeros long long (read reading) (e .0) (c .if1 .left) on free (e .1 .0) (e .1 .1)
+
+  text : let r = read reading in tableText (r .variables) (take (r .«on_count» - 0) on) (take (r .«free_count» - 0) free) ≡ reportText (bytes reading)
+  text = let e = reading .read-table .ensures in read-text (bytes reading) zeros zeros long long (read reading) (e .0) (c .if1 .left) on free (e .1 .0) (e .1 .1)
 
 sub-table-text : tie.Need-sub-table-text
 sub-table-text c = search needs
@@ -50,12 +93,7 @@ part-table-text-start : tie.Need-part-table-text-start
 part-table-text-start c = search needs
 
 part-table-text-end : tie.Need-part-table-text-end
-part-table-text-end c =
-    let s = c .before .before .before .before .before .before .before .before .before .before in
-    let d = c .before .before .before .before .before .read-table in
-    let zeros = replicate {A = ℕ} maxPoints 0 in
-    let long = length-replicate {A = ℕ} maxPoints 0 in
-    on-fits (s .args .bytes .now) zeros zeros long long (d .result) (d .ensures .0) (c .before .before .if1 .left) _ _ (d .ensures .1 .0) (d .ensures .1 .1)
+part-table-text-end c = on-there (c .before .before)
 
 sub-table-text-2 : tie.Need-sub-table-text-2
 sub-table-text-2 c = search needs
@@ -64,31 +102,20 @@ part-table-text-start-2 : tie.Need-part-table-text-start-2
 part-table-text-start-2 c = search needs
 
 part-table-text-end-2 : tie.Need-part-table-text-end-2
-part-table-text-end-2 c =
-    let s = c .before .before .before .before .before .before .before .before .before .before .before .before in
-    let d = c .before .before .before .before .before .before .before .read-table in
-    let zeros = replicate {A = ℕ} maxPoints 0 in
-    let long = length-replicate {A = ℕ} maxPoints 0 in
-    free-fits (s .args .bytes .now) zeros zeros long long (d .result) (d .ensures .0) (c .before .before .before .before .if1 .left) _ _ (d .ensures .1 .0) (d .ensures .1 .1)
+part-table-text-end-2 c = free-there (c .before .before .before .before)
+
+-- Where it was read, from the station that writes its text.
+abbrev sound : tie.After-table-text-arg3 → tie.Else1
+sound c = c .before .before .before .before .before
 
 table-text-requires : tie.Need-table-text-requires
-table-text-requires c κs =
-    let s = c .before .before .before .before .before .before .before .before .before .before .before .before .before in
-    let d = c .before .before .before .before .before .before .before .before .read-table in
-    let zeros = replicate {A = ℕ} maxPoints 0 in
-    let long = length-replicate {A = ℕ} maxPoints 0 in
-    (read-table (s .args .bytes .now) zeros zeros long long (d .result) (d .ensures .0) (c .before .before .before .before .before .if1 .left) _ _ (d .ensures .1 .0) (d .ensures .1 .1), room-same (sym (read-text (s .args .bytes .now) zeros zeros long long (d .result) (d .ensures .0) (c .before .before .before .before .before .if1 .left) _ _ (d .ensures .1 .0) (d .ensures .1 .1))) (s .pre))
+table-text-requires c κs = let t = sound c in (table t, room-same (sym (text t)) (start (reading t) .pre))
 
 same-length-2 : tie.Need-same-length-2
 same-length-2 c = search needs
 
 returns-2 : tie.Need-returns-2
-returns-2 c =
-    let s = c .before .before .before .before .before .before .before .before .before .before .before .before .before .before .before .before in
-    let d = c .before .before .before .before .before .before .before .before .before .before .before .read-table in
-    let zeros = replicate {A = ℕ} maxPoints 0 in
-    let long = length-replicate {A = ℕ} maxPoints 0 in
-    wrote-same (read-text (s .args .bytes .now) zeros zeros long long (d .result) (d .ensures .0) (c .before .before .before .before .before .before .before .before .if1 .left) _ _ (d .ensures .1 .0) (d .ensures .1 .1)) (c .before .before .table-text .ensures)
+returns-2 c = let w = c .before .before in wrote-same (text (sound (w .before))) (w .table-text .ensures)
 
 pub report-text-spec : {M : Type 1} → statement M
 report-text-spec =

@@ -1,5 +1,6 @@
 -- `report::write_report` meets its contract: the text is copied to the front of the room, if it fits. Assumes nothing.
 use mathlib.Core.Path.{_≡_, ap, _∙_}
+use mathlib.Core.List.{List}
 use Prim.Native.Nat.{ℕ, _≤_}
 use native.Mathlib.Omega.{arith}
 use borrow.Author.Needs.{needs}
@@ -21,10 +22,22 @@ report-text-requires c κs =
     let t = c .before .text-room in
     report-room (c .before .before .before .before .args .bytes .now) (t .result) (t .ensures)
 
+-- The report is written to an array of its own, which is long enough.
+module _ (c : tie.After-report-text) where
+  abbrev start : tie.Start
+  start = c .before .before .before .before .before
+
+  abbrev report : List ℕ
+  report = reportText (start .args .bytes .now)
+
+  large : length report ≤ length (c .before .before .text-room .result)
+  large = let t = c .before .before .text-room in report-long (start .args .bytes .now) (t .result) (t .ensures)
+
 returns : tie.Need-returns
 returns c =
-    let a = c .before .before .before .before .before .before .before .args in
-    report-short (a .bytes .now) (a .room .now) (omega (arith, c .before .before .report-text .ensures .place))
+    let r = c .before .before in
+    let a = start r .args in
+    report-short (a .bytes .now) (a .room .now) (omega (arith, r .report-text .ensures .place))
 
 sub-write-word : tie.Need-sub-write-word
 sub-write-word c = search needs
@@ -33,10 +46,7 @@ part-write-word-start : tie.Need-part-write-word-start
 part-write-word-start c = search needs
 
 part-write-word-end : tie.Need-part-write-word-end
-part-write-word-end c =
-    let a = c .before .before .before .before .before .before .before .before .before .args in
-    let t = c .before .before .before .before .before .before .text-room in
-    wrote-fits (report-long (a .bytes .now) (t .result) (t .ensures)) (c .before .before .before .before .report-text .ensures)
+part-write-word-end c = let r = c .before .before .before .before in wrote-fits (large r) (r .report-text .ensures)
 
 write-word-requires : tie.Need-write-word-requires
 write-word-requires c κs = search needs
@@ -46,14 +56,15 @@ same-length c = search needs
 
 returns-2 : tie.Need-returns-2
 returns-2 c =
-    let a = c .before .before .before .before .before .before .before .before .before .before .before .before .before .args in
-    let t = c .before .before .before .before .before .before .before .before .before .before .text-room in
-    let d = c .before .before .before .before .before .before .before .before .report-text in
-    let n : d .result ≡ length (reportText (a .bytes .now)) = omega (arith, d .ensures .place) in
-    let fits : length (reportText (a .bytes .now)) ≤ length (a .room .now) = omega arith in
-    let part = wrote-part (report-long (a .bytes .now) (t .result) (t .ensures)) (d .ensures) in
+    let w = c .before .before in
+    let e = w .before .before .before .before in
+    let r = e .before .before in
+    let a = start r .args in
+    let n : r .report-text .result ≡ length (report r) = omega (arith, r .report-text .ensures .place) in
+    let fits : length (report r) ≤ length (a .room .now) = omega (arith, e .if1 .left) in
+    let part = wrote-part (large r) (r .report-text .ensures) in
     let k = report-accepted (a .bytes .now) (a .room .now) fits in
-    (ap (λ (j : ℕ). record { refusal = 0; length = j }) n ∙ k .0, wrote-front fits (wrote-same part (c .before .before .write-word .ensures)) ∙ k .1)
+    (ap (λ (j : ℕ). record { refusal = 0; length = j }) n ∙ k .0, wrote-front fits (wrote-same part (w .write-word .ensures)) ∙ k .1)
 
 pub write-report-spec : {M : Type 1} → statement M
 write-report-spec =

@@ -17,9 +17,10 @@ space-text-requires c κs =
 form-lines-requires : tie.Need-form-lines-requires
 unfolding functionText
 form-lines-requires c κs =
-    let s = c .before .before .before .before .before .before .before in
+    let t = c .before .before .before in
+    let s = t .before .before .before .before in
     let a = s .args in
-    (s .pre .0, room-then (formLines (a .n) (vectorsOf (a .basis)) (a .points .now)) (s .pre .1) (c .before .before .before .space-text .ensures))
+    (s .pre .0, room-then (formLines (a .n) (vectorsOf (a .basis)) (a .points .now)) (s .pre .1) (t .space-text .ensures))
 
 same-length : tie.Need-same-length
 same-length c = search needs

@@ -23,23 +23,33 @@ number-line-requires c κs =
     let s = c .before .before .before .before .before in
     room-same (ap (numberLine degreeWord) (sym (c .degree .ensures))) (room-first (numberLine degreeWord (length (vectorsOf (s .args .basis)))) _ (s .pre .1))
 
+-- The stations: where the call began, from its first line, and each line from the next.
+abbrev start : tie.After-number-line → tie.Start
+start c = c .before .before .before .before .before .before
+
+abbrev degree-written : tie.After-canonical-line → tie.After-number-line
+degree-written c = c .before .before .before .before
+
+abbrev canonical-written : tie.After-equations-text → tie.After-canonical-line
+canonical-written c = c .before .before .before .before
+
 -- The line of the degree as it was written, and the room behind it.
-degree-line : (c : tie.After-number-line) → let a = c .before .before .before .before .before .before .args in
+degree-line : (c : tie.After-number-line) → let a = start c .args in
     Wrote (a .room .now) (a .at) (numberLine degreeWord (length (vectorsOf (a .basis)))) (c .number-line .last .0) (c .number-line .result)
 degree-line c = wrote-same (ap (numberLine degreeWord) (c .before .degree .ensures)) (c .number-line .ensures)
 
 canonical-line-requires : tie.Need-canonical-line-requires
 unfolding spaceText
 canonical-line-requires c κs =
-    let s = c .before .before .before .before .before .before .before .before .before in
-    (s .pre .0, room-second _ _ (s .pre .1) (degree-line (c .before .before .before)))
+    let d = c .before .before .before in
+    (start d .pre .0, room-second _ _ (start d .pre .1) (degree-line d))
 
 equations-text-requires : tie.Need-equations-text-requires
 unfolding spaceText
 equations-text-requires c κs =
-    let s = c .before .before .before .before .before .before .before .before .before .before .before .before .before in
-    let rest = room-then _ (s .pre .1) (degree-line (c .before .before .before .before .before .before .before)) in
-    (s .pre .0, room-second _ _ rest (c .before .before .before .canonical-line .ensures))
+    let l = c .before .before .before in
+    let d = degree-written l in
+    (start d .pre .0, room-second _ _ (room-then _ (start d .pre .1) (degree-line d)) (l .canonical-line .ensures))
 
 slice-aggregate-numbers-line : tie.Need-slice-aggregate-numbers-line
 slice-aggregate-numbers-line c = search needs
@@ -47,9 +57,10 @@ slice-aggregate-numbers-line c = search needs
 numbers-line-requires : tie.Need-numbers-line-requires
 unfolding spaceText
 numbers-line-requires c κs =
-    let s = c .before .before .before .before .before .before .before .before .before .before .before .before .before .before .before .before .before .before in
-    let rest = room-then _ (s .pre .1) (degree-line (c .before .before .before .before .before .before .before .before .before .before .before .before)) in
-    room-third _ _ rest (c .before .before .before .before .before .before .before .before .canonical-line .ensures) (c .before .before .before .before .equations-text .ensures)
+    let e = c .before .before .before .before in
+    let l = canonical-written e in
+    let d = degree-written l in
+    room-third _ _ (room-then _ (start d .pre .1) (degree-line d)) (l .canonical-line .ensures) (e .equations-text .ensures)
 
 same-length : tie.Need-same-length
 same-length c = search needs
@@ -57,9 +68,10 @@ same-length c = search needs
 returns : tie.Need-returns
 unfolding spaceText
 returns c =
-    let degree = degree-line (c .before .before .before .before .before .before .before .before .before .before .before .before .before .before .before) in
-    wrote-both degree (wrote-both (c .before .before .before .before .before .before .before .before .before .before .before .canonical-line .ensures)
-    (wrote-both (c .before .before .before .before .before .before .before .equations-text .ensures) (c .before .before .numbers-line .ensures)))
+    let numbers = c .before .before in
+    let e = numbers .before .before .before .before .before in
+    let l = canonical-written e in
+    wrote-both (degree-line (degree-written l)) (wrote-both (l .canonical-line .ensures) (wrote-both (e .equations-text .ensures) (numbers .numbers-line .ensures)))
 
 pub space-text-spec : {M : Type 1} → statement M
 space-text-spec =

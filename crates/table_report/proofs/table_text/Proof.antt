@@ -28,30 +28,44 @@ parts c = room-same (table-parts (c .args .n) (c .args .on .now) (c .args .free 
 number-line-requires : tie.Need-number-line-requires
 number-line-requires c κs = let room = parts (c .before .before .before .before .before) in search room-first
 
+-- The stations: where the call began, from its first line; its first line, from its second; its second, from the completed table.
+abbrev start : tie.After-number-line → tie.Start
+start c = c .before .before .before .before .before .before
+
+abbrev number-written : tie.After-counts-line → tie.After-number-line
+number-written c = c .before .before .before .before
+
+abbrev counts-written : tie.After-complete → tie.After-counts-line
+counts-written c = c .before .before .before
+
 counts-line-requires : tie.Need-counts-line-requires
-counts-line-requires c κs = let room = parts (c .before .before .before .before .before .before .before .before .before) in search room-second
+counts-line-requires c κs = let room = parts (start (c .before .before .before)) in search room-second
 
 complete-requires : tie.Need-complete-requires
 complete-requires c κs = search needs
 
 flags-text-requires : tie.Need-flags-text-requires
 flags-text-requires c κs =
-    let s = c .before .before .before .before .before .before .before .before .before .before .before .before .before .before .before .before in
-    let k = c .before .before .before .complete .ensures in
-    let numbers = c .before .before .before .before .before .before .before .before .before .before .number-line .ensures in
-    let rest = room-third _ _ (parts s) numbers (c .before .before .before .before .before .before .counts-line .ensures) in
-    (completed-spans k (s .pre .0 .few), room-same (completed-text k) rest)
+    let d = c .before .before .before in
+    let second = counts-written d in
+    let first = number-written second in
+    let s = start first in (
+      completed-spans (d .complete .ensures) (s .pre .0 .few),
+      room-same (completed-text (d .complete .ensures)) (room-third _ _ (parts s) (first .number-line .ensures) (second .counts-line .ensures)),
+    )
 
 same-length : tie.Need-same-length
 same-length c = search needs
 
 returns : tie.Need-returns
 returns c =
-    let s = c .before .before .before .before .before .before .before .before .before .before .before .before .before .before .before .before .before .before .before in
-    let a = s .args in
+    let d = c .before .before .before .before .before .before in
+    let second = counts-written d in
+    let first = number-written second in
+    let a = start first .args in
     wrote-same (sym (table-parts (a .n) (a .on .now) (a .free .now)))
-    (wrote-both (c .before .before .before .before .before .before .before .before .before .before .before .before .before .number-line .ensures)
-    (wrote-both (c .before .before .before .before .before .before .before .before .before .counts-line .ensures) (wrote-same (sym (completed-text (c .before .before .before .before .before .before .complete .ensures))) (c .before .before .flags-text .ensures))))
+    (wrote-both (first .number-line .ensures)
+    (wrote-both (second .counts-line .ensures) (wrote-same (sym (completed-text (d .complete .ensures))) (c .before .before .flags-text .ensures))))
 
 pub table-text-spec : {M : Type 1} → statement M
 table-text-spec =

@@ -54,37 +54,45 @@ sub-choose-2 c = search needs
 part-choose-start : tie.Need-part-choose-start
 part-choose-start c = search needs
 
+-- The points are written at the front of the array: those of the restriction.
+module _ (c : tie.After-write-kept) where
+  abbrev start : tie.Start
+  start = c .before .before .before .before
+
+  abbrev mask : tie.After-leads
+  mask = c .before .before .before
+
+  abbrev count : ℕ
+  count = c .before .before .count-kept .result
+
+  abbrev points : List ℕ
+  points = c .write-kept .last .1 .1 .1 .0
+
+  restricted : take (count - 0) points ≡ restriction (start .args .n) (vectorsOf (start .args .basis)) (flagged (start .args .flags .now))
+  restricted =
+      part (start .args .n) (start .args .basis) (start .pre .0) (start .pre .1) (flagged (start .args .flags .now)) (mask .leads .result) (mask .leads .ensures)
+      count (c .before .before .count-kept .ensures) (replicate maxChosen 0) points (c .write-kept .ensures)
+
 part-choose-end : tie.Need-part-choose-end
 part-choose-end c =
-    let s = c .before .before .before .before .before .before .before in
-    let l = c .before .before .before .before .before .before .leads in
-    let q = c .before .before .before .before .before .count-kept in
-    let w = c .before .before .before .write-kept in
-    front-fits (kept (s .args .n) (l .result) (flagged (s .args .flags .now))) (replicate maxChosen 0) (w .last .1 .1 .1 .0) (q .result) (w .ensures) (q .ensures)
+    let w = c .before .before .before in
+    let a = start w .args in
+    front-fits (kept (a .n) (mask w .leads .result) (flagged (a .flags .now))) (replicate maxChosen 0) (points w) (count w) (w .write-kept .ensures) (w .before .before .count-kept .ensures)
 
 choose-requires : tie.Need-choose-requires
 choose-requires c κs =
-    let s = c .before .before .before .before .before .before .before .before in
-    let l = c .before .before .before .before .before .before .before .leads in
-    let q = c .before .before .before .before .before .before .count-kept in
-    let w = c .before .before .before .before .write-kept in
-    let p = part (s .args .n) (s .args .basis) (s .pre .0) (s .pre .1) (flagged (s .args .flags .now)) (l .result) (l .ensures) (q .result) (q .ensures) (replicate maxChosen 0) (w .last .1 .1 .1 .0) (w .ensures) in (
+    let w = c .before .before .before .before in
+    let s = start w in
+    let f = flagged (s .args .flags .now) in (
       s .pre .1,
-      (
-        ap (outside (s .args .n - s .args .basis .len)) p ∙ points-inside (s .pre .0) (flagged (s .args .flags .now)),
-        ap unordered p ∙ points-rise (s .pre .0) (flagged (s .args .flags .now)),
-      ),
+      (ap (outside (s .args .n - s .args .basis .len)) (restricted w) ∙ points-inside (s .pre .0) f, ap unordered (restricted w) ∙ points-rise (s .pre .0) f),
     )
 
 returns : tie.Need-returns
 returns c =
-    let s = c .before .before .before .before .before .before .before .before .before in
-    let l = c .before .before .before .before .before .before .before .before .leads in
-    let q = c .before .before .before .before .before .before .before .count-kept in
-    let w = c .before .before .before .before .before .write-kept in
-    subst (λ (l : List ℕ). Chose (s .args .n - s .args .basis .len) l (c .choose .result))
-    (part (s .args .n) (s .args .basis) (s .pre .0) (s .pre .1) (flagged (s .args .flags .now)) (l .result) (l .ensures) (q .result) (q .ensures) (replicate maxChosen 0) (w .last .1 .1 .1 .0) (w .ensures))
-    (c .choose .ensures)
+    let w = c .before .before .before .before .before in
+    let a = start w .args in
+    subst (λ (l : List ℕ). Chose (a .n - a .basis .len) l (c .choose .result)) (restricted w) (c .choose .ensures)
 
 pub choose-restriction-spec : {M : Type 1} → statement M
 choose-restriction-spec =

@@ -67,35 +67,40 @@ loop-holds : tie.Need-loop-holds Inv-loop μ-loop
 unfolding encodeFactors
 loop-holds c = (omega arith, omega arith, refl)
 
+-- Where the call began, from the loop.
+abbrev start : tie.At-loop Inv-loop μ-loop → tie.Start Inv-loop μ-loop
+start c = c .before .before .before .before .before .before
+
+-- The room is as long as it was.
+long : (c : tie.At-loop Inv-loop μ-loop) → length (c .loop .room) ≡ length (start c .args .room .now)
+long c =
+    let s = start c in
+    let l = c .loop in
+    ap length (l .inv .2)
+    ∙ length-sets (set (s .args .room .now) (s .args .at) productKind) (s .args .at + 1) (encodeFactors (take (l .i) (pairs (s .args .factors) (s .pre .0))))
+    ∙ length-set (s .args .room .now) (s .args .at) productKind
+
 mul-put-factor : tie.Need-mul-put-factor Inv-loop μ-loop
-mul-put-factor c = let s = c .before .before .before .before .before .before .before .before in omega (arith, masks-few (s .args .factors) (s .pre .0) (search needs))
+mul-put-factor c = let s = start (c .before .before) in omega (arith, masks-few (s .args .factors) (s .pre .0) (search needs))
 
 array-read-put-factor : tie.Need-array-read-put-factor Inv-loop μ-loop
-array-read-put-factor c = let s = c .before .before .before .before .before .before .before .before in omega (arith, masks-few (s .args .factors) (s .pre .0) (search needs))
+array-read-put-factor c = let s = start (c .before .before) in omega (arith, masks-few (s .args .factors) (s .pre .0) (search needs))
 
 mul-put-factor-2 : tie.Need-mul-put-factor-2 Inv-loop μ-loop
-mul-put-factor-2 c = let s = c .before .before .before .before .before .before .before .before in omega (arith, masks-few (s .args .factors) (s .pre .0) (search needs))
+mul-put-factor-2 c = let s = start (c .before .before) in omega (arith, masks-few (s .args .factors) (s .pre .0) (search needs))
 
 array-read-put-factor-2 : tie.Need-array-read-put-factor-2 Inv-loop μ-loop
-array-read-put-factor-2 c = let s = c .before .before .before .before .before .before .before .before in omega (arith, masks-few (s .args .factors) (s .pre .0) (search needs))
+array-read-put-factor-2 c = let s = start (c .before .before) in omega (arith, masks-few (s .args .factors) (s .pre .0) (search needs))
 
 put-factor-requires : tie.Need-put-factor-requires Inv-loop μ-loop
 put-factor-requires c κs =
-    let s = c .before .before .before .before .before .before .before .before in
-    let l = c .before .before .loop in (
-      omega (
-        arith,
-        ap length (l .inv .2),
-        length-sets (set (s .args .room .now) (s .args .at) productKind) (s .args .at + 1) (encodeFactors (take (l .i) (pairs (s .args .factors) (s .pre .0)))),
-        length-set (s .args .room .now) (s .args .at) productKind,
-        masks-len (s .args .factors) (s .pre .0),
-      ),
-      constant-binary (s .args .factors) (s .pre .0) (l .i) (omega arith),
-    )
+    let k = c .before .before in
+    let s = start k in
+    (omega (arith, long k, masks-len (s .args .factors) (s .pre .0)), constant-binary (s .args .factors) (s .pre .0) (k .loop .i) (omega arith))
 
 add-place-2 : tie.Need-add-place-2 Inv-loop μ-loop
 add-place-2 c =
-    let s = c .before .before .before .before .before .before .before .before .before .before .before in
+    let s = start (c .before .before .before .before .before) in
     omega (arith, masks-few (s .args .factors) (s .pre .0) (search needs), s .pre .1, masks-len (s .args .factors) (s .pre .0))
 
 add-i : tie.Need-add-i Inv-loop μ-loop
@@ -106,8 +111,9 @@ loop-less c = search needs
 
 loop-again : tie.Need-loop-again Inv-loop μ-loop
 loop-again c =
-    let s = c .before .before .before .before .before .before .before .before .before .before .before in
-    let l = c .before .before .before .before .before .loop in
+    let k = c .before .before .before .before .before in
+    let s = start k in
+    let l = k .loop in
     let p = c .before .before .put-factor in (
       omega arith,
       omega arith,
@@ -115,16 +121,11 @@ loop-again c =
     )
 
 same-length : tie.Need-same-length Inv-loop μ-loop
-same-length c =
-    let s = c .before .before .before .before .before .before .before in
-    let l = c .before .loop in
-    ap length (l .inv .2)
-    ∙ length-sets (set (s .args .room .now) (s .args .at) productKind) (s .args .at + 1) (encodeFactors (take (l .i) (pairs (s .args .factors) (s .pre .0))))
-    ∙ length-set (s .args .room .now) (s .args .at) productKind
+same-length c = long (c .before)
 
 returns : tie.Need-returns Inv-loop μ-loop
 returns c =
-    let s = c .before .before .before .before .before .before .before in
+    let s = start (c .before) in
     let l = c .before .loop in (
       omega (arith, masks-len (s .args .factors) (s .pre .0)),
       whole (s .args .factors) (s .pre .0) (s .args .room .now) (l .room) (s .args .at) (l .i) (omega arith) (l .inv .2),

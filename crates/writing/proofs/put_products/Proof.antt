@@ -64,6 +64,16 @@ loop-holds : tie.Need-loop-holds Inv-loop μ-loop
 unfolding productsLength encodeProducts productsBy chosenBy
 loop-holds c = (omega arith, refl, refl)
 
+-- Where the call began, from the loop.
+abbrev start : tie.At-loop Inv-loop μ-loop → tie.Start Inv-loop μ-loop
+start c = c .before .before .before .before .before
+
+-- The room is as long as it was.
+long : (c : tie.At-loop Inv-loop μ-loop) → length (c .loop .room) ≡ length (start c .args .room .now)
+long c =
+    let a = start c .args in
+    ap length (c .loop .inv .2) ∙ length-sets (a .room .now) 2 (encodeProducts (productsBy (listed (a .equations)) (a .m) (a .choice) (c .loop .i)))
+
 mul-product-of : tie.Need-mul-product-of Inv-loop μ-loop
 mul-product-of c = search needs
 
@@ -84,18 +94,18 @@ array-read-product-of-3 c = search needs
 
 product-of-requires : tie.Need-product-of-requires Inv-loop μ-loop
 product-of-requires c κs =
-    let s = c .before .before .before .before .before .before in
+    let s = start (c .before) in
     let e = s .pre .1 .0 .entry (c .before .loop .i) (omega arith) in
     (s .pre .0, (e .few, entry-candidate e))
 
 put-product-requires : tie.Need-put-product-requires Inv-loop μ-loop
 put-product-requires c κs =
-    let s = c .before .before .before .before .before .before .before .before in
-    let l = c .before .before .before .loop in
-    let v = c .before .product-of in
-    let long = ap length (l .inv .2) ∙ length-sets (s .args .room .now) 2 (encodeProducts (productsBy (listed (s .args .equations)) (s .args .m) (s .args .choice) (l .i))) in (
+    let k = c .before .before .before in
+    let s = start k in
+    let l = k .loop in
+    let v = c .before .product-of in (
       is (listed (s .args .equations)) (s .args .m) (s .args .choice) (s .pre .1 .0) (l .i) (omega arith) (v .result) (v .ensures),
-      fits (listed (s .args .equations)) (s .args .m) (s .args .choice) (s .pre .1 .0) (l .i) (omega arith) (v .result) (v .ensures) (l .at) (length (l .room)) (l .inv .1) (omega (arith, s .pre .1 .1, long)),
+      fits (listed (s .args .equations)) (s .args .m) (s .args .choice) (s .pre .1 .0) (l .i) (omega arith) (v .result) (v .ensures) (l .at) (length (l .room)) (l .inv .1) (omega (arith, s .pre .1 .1, long k)),
     )
 
 add-i : tie.Need-add-i Inv-loop μ-loop
@@ -106,8 +116,9 @@ loop-less c = search needs
 
 loop-again : tie.Need-loop-again Inv-loop μ-loop
 loop-again c =
-    let s = c .before .before .before .before .before .before .before .before .before .before .before in
-    let l = c .before .before .before .before .before .before .loop in
+    let k = c .before .before .before .before .before .before in
+    let s = start k in
+    let l = k .loop in
     let v = c .before .before .before .before .product-of in
     let p = c .before .before .put-product in (
       omega arith,
@@ -116,14 +127,11 @@ loop-again c =
     )
 
 same-length : tie.Need-same-length Inv-loop μ-loop
-same-length c =
-    let s = c .before .before .before .before .before .before in
-    let l = c .before .loop in
-    ap length (l .inv .2) ∙ length-sets (s .args .room .now) 2 (encodeProducts (productsBy (listed (s .args .equations)) (s .args .m) (s .args .choice) (l .i)))
+same-length c = long (c .before)
 
 returns : tie.Need-returns Inv-loop μ-loop
 returns c =
-    let s = c .before .before .before .before .before .before in
+    let s = start (c .before) in
     let l = c .before .loop in
     let e : l .i ≡ s .args .choice .count = omega arith in (
       l .inv .1 ∙ ap (λ (k : ℕ). 2 + productsLength (s .args .m) (s .args .choice .degrees) k) e,
