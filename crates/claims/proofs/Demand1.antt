@@ -15,6 +15,7 @@ use Rattle.table.proofs.Decide.{decide-accepted, decide-refused, decide-number,
 use Rattle.table.proofs.Table.{refuted, shared-mem}
 use Rattle.stored.specs.Stored.{storedTests, storedFault}
 use Rattle.stored.specs.Reading.{readCall, readAnswer, readOnAfter, readFreeAfter}
+use Rattle.compare.specs.Answer.{compareCall, compareAnswer, compareAfter}
 use Rattle.analysis.specs.Spaces.{linearSpaceCall, linearSpaceAnswer, completeCall, completeAnswer, completeAfter, analyseCall, analyseAnswer, analyseAfter}
 use Rattle.analysis.specs.Affine.{affineCall, affineAnswer, affineAfter}
 use Rattle.form_calls.specs.Reading.{pointsCall, pointsAnswer, pointsAfter, rewriteCall, rewriteAnswer, rewriteAfter}
@@ -64,9 +65,10 @@ report-printed bytes = record {
 -- ---- the calls
 
 pub demand1 : Demand1
-unfolding holds keep tableTests readAnswer readOnAfter readFreeAfter linearSpaceAnswer completeAnswer completeAfter analyseAnswer analyseAfter affineAnswer affineAfter listingAnswer listingAfter pointsAnswer pointsAfter rewriteAnswer rewriteAfter writeAnswer writeAfter reportAnswer reportAfter
+unfolding holds keep tableTests readAnswer readOnAfter readFreeAfter compareAnswer compareAfter linearSpaceAnswer completeAnswer completeAfter analyseAnswer analyseAfter affineAnswer affineAfter listingAnswer listingAfter pointsAnswer pointsAfter rewriteAnswer rewriteAfter writeAnswer writeAfter reportAnswer reportAfter
 demand1 = record {
   read-table = λ bytes on free. decides _ _ _ _ (readCall bytes (length on) (length free)) _ refl refl refl refl refl (λ k. refl) (λ k. refl);
+  compare = λ left right first room. decides _ _ _ _ (compareCall left right first room) _ refl refl refl refl refl (λ k. refl) (λ k. refl);
   linear-space = λ n on. decides _ _ _ _ (linearSpaceCall n on) _ refl refl refl refl refl (λ k. refl) (λ k. refl);
   complete = λ n on free room. decides _ _ _ _ (completeCall n on free room) _ refl refl refl refl refl (λ k. refl) (λ k. refl);
   analyse = λ n on free room. decides _ _ _ _ (analyseCall n on free room) _ refl refl refl refl refl (λ k. refl) (λ k. refl);

@@ -1,4 +1,4 @@
--- Demand 3 holds of every accepted table of one to six variables and every list of calls that go on from place 0. Read next: Examples.
+-- Demand 3 holds of every accepted table of one to six variables and every list of calls that go on from place 0. Read next: Compared.
 use mathlib.Core.Path.{_≡_, refl, sym, ap, _∙_, subst}
 use mathlib.Core.Bool.{Bool, true, false, cond, _&&_}
 use mathlib.Core.Logic.{_⊎_, inl, inr, _≢_, _↔_}

@@ -49,8 +49,13 @@ use Rattle.cubes.proofs.Calls.{call-obeyed, primes-add}
 use Rattle.report.proofs.Answering.{report-fits}
 use Rattle.analysis.specs.Spaces.{completedRestriction}
 use Rattle.analysis.specs.Affine.{affineProjection}
+use Rattle.point_marks.specs.Marks.{storedMark}
+use Rattle.compare.specs.Answer.{tableSize, compareAnswer}
+use Rattle.compare.proofs.Joining.{from-length}
+use Rattle.claims.specs.Compared.{Comparing, returned}
 use Rattle.claims.specs.Rooms.{RoomsSuffice}
 use Rattle.claims.proofs.FormBytes.{products-length, written-fits}
+use Rattle.claims.proofs.Compared.{Taken, taken, taken-at}
 
 -- ---- stored tables
 
@@ -203,6 +208,24 @@ module _ (c : Call) (a : accepted c ≡ true) (first : c .place ≡ 0) (paid : e
       ] in
       omega (arith, o .next, o .passed)
 
+-- A comparison with that room stops at 2 ^ n: before a differing point there would be too many records.
+compare-end : (left right : List ℕ) (first : ℕ) (room : List ℕ) → compareAnswer left right first room .refusal ≡ 0 → 16384 ≤ length room
+    → compareAnswer left right first room .next ≡ tableSize left
+compare-end left right first room e enough =
+    let c : Comparing = record { left = left; right = right; first = first; room = room } in
+    let t = taken c e in
+    elim (taken-at c t) [
+      | inl done ↦ done
+      | inr full ↦ absurd (omega (
+        arith,
+        full .0,
+        full .2,
+        t .records,
+        from-length (storedMark left) (storedMark right) first (returned c .next),
+        pow-mono (stored-accepted left (t .tables .left-sound) .few),
+      ))
+    ]
+
 pub rooms-suffice : RoomsSuffice
 rooms-suffice = record {
   table = table-room;
@@ -218,4 +241,5 @@ rooms-suffice = record {
   report = report-fits;
   listing = λ t small. records-room t small (endOf t);
   listing-ends = listing-end;
+  compare-ends = compare-end;
 }

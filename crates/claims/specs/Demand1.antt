@@ -11,13 +11,15 @@ use lib.ListN.{length, replicate}
 use Rattle.gf2.specs.Finite.{holds}
 use Rattle.basis.specs.declared.Basis.{Basis}
 use Rattle.basis.specs.declared.ShortList.{ShortList}
-use Rattle.table.specs.Refusal.{Exact, variablesFault, pointFault, orderFault, sharedFault, sizeFault, affineFault, roomFault, layoutFault, placeFault}
+use Rattle.table.specs.Refusal.{Exact, variablesFault, pointFault, orderFault, sharedFault, sizeFault, affineFault, roomFault, layoutFault, placeFault, countsFault, firstPointFault}
 use Rattle.table.specs.Decision.{front, Decision}
 use Rattle.table.specs.Table.{shared}
 use Rattle.stored.specs.declared.TableRead.{TableRead}
 use Rattle.stored.specs.Marks.{storedVariables, storedOn, storedFree}
 use Rattle.stored.specs.Stored.{storedTests, storedFault}
 use Rattle.stored.specs.Reading.{readCall, readAnswer, readOnAfter, readFreeAfter}
+use Rattle.compare.specs.declared.Comparison.{Comparison}
+use Rattle.compare.specs.Answer.{compareBytes, compareCall, compareAnswer, compareAfter}
 use Rattle.space.specs.Completion.{completedPoints}
 use Rattle.analysis.specs.declared.LinearSpace.{LinearSpace}
 use Rattle.analysis.specs.declared.Completion.{Completion}
@@ -44,6 +46,13 @@ use Rattle.report.specs.Answer.{reportCall, reportAnswer, reportAfter}
 -- The one fixed order of the refusals of document 01, "Refusal numbers": bytes first, the room last.
 abbrev pub refusalOrder : List ℕ
 refusalOrder = layoutFault ∷ variablesFault ∷ pointFault ∷ orderFault ∷ sharedFault ∷ affineFault ∷ sizeFault ∷ placeFault ∷ roomFault ∷ []
+
+-- The order of comparing two tables (document 02, No. 1): all refusals of the left table in that order, all of the right one, then the two of both.
+abbrev pub storedOrder : List ℕ
+storedOrder = layoutFault ∷ variablesFault ∷ pointFault ∷ orderFault ∷ []
+
+abbrev pub comparisonOrder : List ℕ
+comparisonOrder = storedOrder ++ (storedOrder ++ (countsFault ∷ firstPointFault ∷ []))
 
 -- A lent room: the list that an accepted call writes to it, what it held when it was lent, and what it holds as the call returns.
 pub record Room : Type 0 where
@@ -80,6 +89,9 @@ shortNumbers s = s .len ∷ s .values
 
 abbrev pub readOthers : TableRead → List ℕ
 readOthers r = r .variables ∷ r .«on_count» ∷ r .«free_count» ∷ []
+
+abbrev pub compareOthers : Comparison → List ℕ
+compareOthers r = r .records ∷ r .next ∷ r .total ∷ []
 
 abbrev pub linearSpaceOthers : LinearSpace → List ℕ
 linearSpaceOthers r = r .degree ∷ basisNumbers (r .basis)
@@ -125,6 +137,11 @@ pub record Demand1 : Type 0 where
       → Decides refusalOrder (8 ∷ 1 ∷ 2 ∷ 3 ∷ 7 ∷ []) (λ r. r .refusal) readOthers
       (readCall bytes (length on) (length free)) (readAnswer bytes (length on) (length free))
       (lent (storedOn bytes) on (readOnAfter bytes on free) ∷ lent (storedFree bytes) free (readFreeAfter bytes on free) ∷ [])
+  -- Where both tables are refused, the left number is given. A room that runs short stops the listing: there is no 7.
+  pub compare : (left right : List ℕ) (first : ℕ) (room : List ℕ)
+      → Decides comparisonOrder (8 ∷ 1 ∷ 2 ∷ 3 ∷ 8 ∷ 1 ∷ 2 ∷ 3 ∷ 10 ∷ 11 ∷ []) (λ r. r .refusal) compareOthers
+      (compareCall left right first room) (compareAnswer left right first room)
+      (lent (compareBytes left right first room) room (compareAfter left right first room) ∷ [])
   pub linear-space : (n : ℕ) (on : List ℕ)
       → Decides refusalOrder (1 ∷ 2 ∷ 3 ∷ 4 ∷ []) (λ r. r .refusal) linearSpaceOthers
       (linearSpaceCall n on) (linearSpaceAnswer n on)

@@ -3,6 +3,7 @@
 --
 -- It is a claim about the running call. A call of `list_primes` with some arguments is `callOf` of them, and its contract (crates/glospruma/src/lib.rt)
 -- says that the numbers it returns are `listingAnswer` of that and that its room holds `listingAfter` of that, which are all that is spoken of here.
+-- Read next: Compared.
 use mathlib.Core.Path.{_≡_}
 use mathlib.Core.Bool.{Bool, true, cond, _&&_}
 use mathlib.Core.Logic.{_≢_, _↔_}
@@ -46,7 +47,7 @@ reached place [] = place
 reached place (c ∷ cs) = reached (advance place c) cs
 
 -- A number of each call, summed.
-unfoldable pub sumOf : (Call → ℕ) → List Call → ℕ
+unfoldable pub sumOf : {A : Type 0} → (A → ℕ) → List A → ℕ
 sumOf g [] = 0
 sumOf g (c ∷ cs) = g c + sumOf g cs
 

@@ -9,6 +9,7 @@ use Rattle.table.specs.Table.{Accepted}
 use Rattle.records.specs.Kinds.{Bytes}
 use Rattle.stored.specs.Marks.{storedOn, storedFree}
 use Rattle.stored.specs.Stored.{storedFault}
+use Rattle.compare.specs.Answer.{tableSize, compareAnswer}
 use Rattle.space.specs.Completion.{completedPoints}
 use Rattle.form.specs.Refusal.{formFault}
 use Rattle.form_calls.specs.Reading.{pointsRead, rewritten}
@@ -42,3 +43,6 @@ pub record RoomsSuffice : Type 0 where
   -- reaches the end.
   pub listing : (t : Table) → t .variables ≤ maxListed → length (recordsOf (primesBehind t (endOf t))) ≤ 22600
   pub listing-ends : (c : Call) → accepted c ≡ true → c .place ≡ 0 → endOf (c .table) ≤ c .allowance → 22600 ≤ length (c .room) → listingAnswer c .next ≡ endOf (c .table)
+  -- COMPARISON_ROOM: a record for each point of the most variables; so one call from any first point on is done.
+  pub compare-ends : (left right : List ℕ) (first : ℕ) (room : List ℕ) → compareAnswer left right first room .refusal ≡ 0 → 16384 ≤ length room
+      → compareAnswer left right first room .next ≡ tableSize left

@@ -13,6 +13,7 @@ use lib.Seq.{take-add, take-at}
 use lib.Dec.{ltb}
 use borrow.Author.Tests.{ltb-true, ltb-false, eqb-true, eqb-false, eq-eqb}
 use Rattle.gf2.specs.Finite.{Mem, holds}
+use Rattle.gf2.proofs.Finite.{flatMap-append}
 use Rattle.table.specs.Refusal.{firstFault, Numbered, NoneApplies}
 use Rattle.table.specs.Decision.{front}
 use Rattle.table.specs.Table.{tableTests}
@@ -23,7 +24,7 @@ use Rattle.cubes.specs.Cubes.{Candidate, candidate, degree}
 use Rattle.cubes.specs.Candidates.{candidates, candidateCount}
 use Rattle.cubes.specs.Records.{maxListed, recordLength, recordOf, recordsOf}
 use Rattle.cubes.specs.Listing.{Call, primeOf, listingTests, listingFault, accepted, Passage, nothing, passing, writing, passage, Full, ListingRule, listing, listingRefused, listingAccepted, listingAnswer, listingAfter}
-use Rattle.cubes.proofs.Lists.{keep-append, flatMap-append}
+use Rattle.cubes.proofs.Lists.{keep-append}
 
 -- ---- records
 

@@ -3,7 +3,7 @@
 use mathlib.Core.Path.{_≡_, refl, sym, ap, ap₂, _∙_, subst}
 use mathlib.Core.Bool.{Bool, true, false, cond, _&&_}
 use mathlib.Core.Logic.{_⊎_, inl, inr}
-use mathlib.Core.List.{List, [], _∷_, _++_, map, flatMap, append-assoc}
+use mathlib.Core.List.{List, [], _∷_, _++_, map, flatMap}
 use Prim.Native.Nat.{ℕ, zero, suc}
 use lib.ListN.{take}
 use Rattle.gf2.specs.Finite.{Mem, Ordered}
@@ -61,11 +61,6 @@ keep-append f (a ∷ l) m = go (f a) (keep-append f l m)
     go : (t : Bool) → keep f (l ++ m) ≡ keep f l ++ keep f m → cond t (a ∷ keep f (l ++ m)) (keep f (l ++ m)) ≡ cond t (a ∷ keep f l) (keep f l) ++ keep f m
     go true e = ap (λ x. a ∷ x) e
     go false e = e
-
-pub flatMap-append : {A B : Type 0} (g : A → List B) (l m : List A) → flatMap g (l ++ m) ≡ flatMap g l ++ flatMap g m
-unfolding flatMap
-flatMap-append g [] m = refl
-flatMap-append g (a ∷ l) m = ap (λ x. g a ++ x) (flatMap-append g l m) ∙ sym (append-assoc (g a) (flatMap g l) (flatMap g m))
 
 -- ---- tests that agree, two tests, and a test after a map
 

@@ -1,8 +1,8 @@
--- Laws of specs.Finite: tests over all numbers below a bound, the search for the least, members of a list and of a selection. Read next: Xor.
+-- Laws of specs.Finite: tests over all numbers below a bound, the search for the least, members of a list and of a selection, lists joined. Read next: Xor.
 use mathlib.Core.Path.{_≡_, refl, sym, ap, _∙_, subst}
 use mathlib.Core.Bool.{Bool, true, false, not, cond}
 use mathlib.Core.Logic.{_⊎_, inl, inr, _↔_}
-use mathlib.Core.List.{List, [], _∷_, _++_, map, map-append}
+use mathlib.Core.List.{List, [], _∷_, _++_, map, flatMap, map-append, append-assoc}
 use Prim.Native.Nat.{ℕ, zero, suc, _+_, _≤_, _<_}
 use native.Mathlib.Nat.{le-refl, lt-of-not-le, eq-or-lt-of-le, le-of-suc-le-suc, suc-inj, not-suc-le-zero, lt-suc-self}
 use native.Mathlib.Decide.{decLe, ℕ-discrete}
@@ -134,12 +134,19 @@ pub select-holds : (f : ℕ → Bool) (k x : ℕ) → x < k → holds (select f 
 select-holds f k x h =
     same (holds (select f k) x) (f x) (λ e. select-mem f k x (holds-mem (select f k) x .0 e) .1) (λ e. holds-mem (select f k) x .1 (mem-select f k x h e))
 
--- ---- ordered lists
+-- ---- lists joined
+
+pub flatMap-append : {A B : Type 0} (g : A → List B) (l m : List A) → flatMap g (l ++ m) ≡ flatMap g l ++ flatMap g m
+unfolding flatMap
+flatMap-append g [] m = refl
+flatMap-append g (a ∷ l) m = ap (λ x. g a ++ x) (flatMap-append g l m) ∙ sym (append-assoc (g a) (flatMap g l) (flatMap g m))
 
 pub append-mem : {A : Type 0} (l m : List A) (x : A) → Mem x (l ++ m) → Mem x l ⊎ Mem x m
 append-mem [] m x i = inr i
 append-mem (a ∷ l) m x (inl e) = inl (inl e)
 append-mem (a ∷ l) m x (inr i) = elim (append-mem l m x i) [ inl k ↦ inl (inr k) | inr k ↦ inr k ]
+
+-- ---- ordered lists
 
 pub ordered-append : {A : Type 0} (R : A → A → Type 0) (l m : List A) → Ordered R l → Ordered R m → ((a b : A) → Mem a l → Mem b m → R a b) → Ordered R (l ++ m)
 ordered-append R [] m p q h = q

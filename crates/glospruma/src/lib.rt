@@ -1,9 +1,10 @@
 // The public calls, exported to C and Rust, and nothing else: each hands its arguments to the crate that does the work. A call takes numbers and lent
 // slices, asks nothing of its caller, and says in its contract what it returns and what every lent slice holds afterwards, on all inputs. A refused
-// call returns the number of document 01, "Refusal numbers", with all other numbers 0 and all lent memory as before. Read next: crate `claims`.
+// call returns the number of document 01, "Refusal numbers", or of document 02, with all other numbers 0 and all lent memory as before. Read next: crate `claims`.
 ghost use mathlib.Core.Path.{_≡_};
 ghost use lib.ListN.{length};
 ghost use Rattle.stored.specs.Reading.{readAnswer, readOnAfter, readFreeAfter};
+ghost use Rattle.compare.specs.Answer.{compareAnswer, compareAfter};
 ghost use Rattle.form_calls.specs.Reading.{pointsAnswer, pointsAfter, rewriteAnswer, rewriteAfter};
 ghost use Rattle.cubes.specs.Listing.{listingAnswer, listingAfter};
 ghost use Rattle.listing.specs.Answers.{callOf, numbersOf};
@@ -15,6 +16,7 @@ use analysis::AffineSpace;
 use analysis::Analysis;
 use analysis::Completion;
 use analysis::LinearSpace;
+use compare::Comparison;
 use form_calls::FormPoints;
 use form_calls::FormRewrite;
 use listing::Listed;
@@ -30,6 +32,21 @@ pub extern "C" fn glospruma_read_table(bytes: &[u8], on: &mut [u16], free: &mut 
     ensures { λ r. ⌜ now (free .exit) ≡ readFreeAfter (now (bytes .entry)) (now (on .entry)) (now (free .entry)) ⌝ }
 {
     stored::read_table(bytes, &mut *on, &mut *free)
+}
+
+// Two stored tables compared from a first point on: a record at the front of the room for each point that they mark differently, until one doesn't fit,
+// and the number of all such points. Refusals 8, 1, 2, 3 of the left table, then of the right one, then 10, 11; a room that runs short stops the listing.
+#[no_mangle]
+pub extern "C" fn glospruma_compare(
+    left: &[u8],
+    right: &[u8],
+    first: usize,
+    room: &mut [u8],
+) -> Comparison
+    ensures { λ r. ⌜ r ≡ compareAnswer (now (left .entry)) (now (right .entry)) first (now (room .entry)) ⌝ }
+    ensures { λ r. ⌜ now (room .exit) ≡ compareAfter (now (left .entry)) (now (right .entry)) first (now (room .entry)) ⌝ }
+{
+    compare::compare(left, right, first, &mut *room)
 }
 
 // The linear space of the function that is on at the given points and off elsewhere. Refusals 1, 2, 3.

@@ -7,7 +7,7 @@ ghost use lib.ListN.{length, getD, drop};
 ghost use Rattle.gf2.specs.Limits.{maxVariables};
 ghost use Rattle.table.specs.Decision.{front};
 ghost use Rattle.table.specs.Table.{outside, unordered};
-ghost use Rattle.stored.specs.Marks.{noMark, marks, markedPoints, storedPoints};
+ghost use Rattle.stored.specs.Marks.{noMark, marks, markedPoints, storedVariables, storedPoints};
 ghost use Rattle.stored.specs.Reading.{readFault, readAnswer, readOnAfter, readFreeAfter};
 ghost use Rattle.stored.specs.Stored.{LaidOut, storedFault};
 ghost use Rattle.stored.specs.Layout.{firstTableStep, tableStep, walkTableFrom, walked};
@@ -101,8 +101,16 @@ pub fn walk_table(bytes: &[u8]) -> Walk
     }
 }
 
+// n, the body of the first record.
+pub fn variables(bytes: &[u8]) -> usize
+    requires { ⌜ LaidOut (now bytes) ⌝ }
+    ensures { λ r. ⌜ r ≡ storedVariables (now (bytes .entry)) ⌝ }
+{
+    bytes[1] as usize
+}
+
 // The number of records of points: the first record, theirs and the end record take up all the bytes.
-fn record_count(bytes: &[u8]) -> usize
+pub fn record_count(bytes: &[u8]) -> usize
     requires { ⌜ LaidOut (now bytes) ⌝ }
     ensures { λ r. ⌜ r ≡ length (marks (now (bytes .entry))) ⌝ }
 {
@@ -110,7 +118,7 @@ fn record_count(bytes: &[u8]) -> usize
 }
 
 // The point of a record, by the record's number.
-fn point_at(bytes: &[u8], i: usize) -> u16
+pub fn point_at(bytes: &[u8], i: usize) -> u16
     requires { ⌜ LaidOut (now bytes) ⌝ }
     requires { ⌜ i < length (marks (now bytes)) ⌝ }
     ensures { λ r. ⌜ r ≡ getD (storedPoints (now (bytes .entry))) i 0 ⌝ }
@@ -161,7 +169,7 @@ pub fn stored_fault(bytes: &[u8]) -> u8
     if fault != 0 {
         return fault;
     }
-    let n = bytes[1] as usize;
+    let n = variables(bytes);
     if table::bad_count(n) {
         return table::VARIABLES_FAULT;
     }
@@ -175,7 +183,7 @@ pub fn stored_fault(bytes: &[u8]) -> u8
 }
 
 // A record, by its number, is of an on point if those are asked for, or else of a free point.
-fn is_marked(bytes: &[u8], i: usize, on: bool) -> bool
+pub fn is_marked(bytes: &[u8], i: usize, on: bool) -> bool
     requires { ⌜ LaidOut (now bytes) ⌝ }
     requires { ⌜ i < length (marks (now bytes)) ⌝ }
     ensures { λ r. ⌜ r ≡ Bool·beq on (getD (marks (now (bytes .entry))) i noMark .isOn) ⌝ }
@@ -257,7 +265,7 @@ pub fn read_table(bytes: &[u8], on: &mut [u16], free: &mut [u16]) -> TableRead
     let free_count = write_points(bytes, false, &mut *free);
     TableRead {
         refusal: 0,
-        variables: bytes[1] as usize,
+        variables: variables(bytes),
         on_count,
         free_count,
     }

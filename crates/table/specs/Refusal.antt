@@ -1,4 +1,4 @@
--- Refusal numbers and the order of tests (document 01, "Refusal numbers"). Read next: Decision.
+-- Refusal numbers and the order of tests (document 01, "Refusal numbers"; document 02 adds the numbers from 10 on). Read next: Decision.
 use mathlib.Core.Path.{_≡_}
 use mathlib.Core.Bool.{Bool, true, false, cond}
 use mathlib.Core.Logic.{_≢_, _↔_}
@@ -43,6 +43,14 @@ layoutFault = 8
 -- A listing place above the number of candidates.
 abbrev pub placeFault : ℕ
 placeFault = 9
+
+-- Two tables have different numbers of variables (document 02, No. 1).
+abbrev pub countsFault : ℕ
+countsFault = 10
+
+-- The first point of a comparison is above 2 ^ n (document 02, No. 1).
+abbrev pub firstPointFault : ℕ
+firstPointFault = 11
 
 -- ---- tests in their order
 

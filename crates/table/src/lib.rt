@@ -8,7 +8,7 @@ ghost use Rattle.gf2.specs.Limits.{maxVariables};
 ghost use Rattle.table.specs.Table.{badCount, outside, unordered, shared, tableFault};
 ghost use Rattle.table.specs.Flags.{marked, flagsOf};
 
-// The refusal numbers of document 01, "Refusal numbers", as in specs/.
+// The refusal numbers of document 01, "Refusal numbers", and of document 02, as in specs/.
 pub const VARIABLES_FAULT: u8 = 1;
 
 pub const POINT_FAULT: u8 = 2;
@@ -26,6 +26,10 @@ pub const ROOM_FAULT: u8 = 7;
 pub const LAYOUT_FAULT: u8 = 8;
 
 pub const PLACE_FAULT: u8 = 9;
+
+pub const COUNTS_FAULT: u8 = 10;
+
+pub const FIRST_POINT_FAULT: u8 = 11;
 
 // The number of points of the largest number of variables, as `maxPoints` in specs/.
 pub const MAX_POINTS: usize = 1 << MAX_VARIABLES;

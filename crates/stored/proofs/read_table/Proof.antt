@@ -47,16 +47,11 @@ write-points-requires-2 c κs =
     let h = read-fits (a .bytes .now) (length (a .on .now)) (length (a .free .now)) (accepted e) in
     (stored-laid (a .bytes .now) (h .0), h .2)
 
-shared-slice-read-t15 : tie.Need-shared-slice-read-t15
-shared-slice-read-t15 c =
-    let e = c .before .before .before .before .before .before .before .before .before in
+variables-requires : tie.Need-variables-requires
+variables-requires c κs =
+    let e = c .before .before .before .before .before .before .before .before in
     let a = e .before .before .before .before .before .args in
-    let h = read-fits (a .bytes .now) (length (a .on .now)) (length (a .free .now)) (accepted e) in
-    let there : 1 < length (a .bytes .now) = omega (arith, table-length (a .bytes .now) (stored-laid (a .bytes .now) (h .0))) in
-    there
-
-cast-t7 : tie.Need-cast-t7
-cast-t7 c = omega (arith, c .shared-slice-known2 .given 1)
+    stored-laid (a .bytes .now) (read-fits (a .bytes .now) (length (a .on .now)) (length (a .free .now)) (accepted e) .0)
 
 same-length : tie.Need-same-length
 same-length c = search needs
@@ -86,8 +81,7 @@ read-table-spec =
     returns
     write-points-requires
     write-points-requires-2
-    shared-slice-read-t15
-    cast-t7
+    variables-requires
     same-length
     same-length-2
     returns-2)

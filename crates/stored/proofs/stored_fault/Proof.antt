@@ -1,13 +1,14 @@
 -- `stored::stored_fault` meets its contract: at each return the tests up to it are known, and the list of tests computes. Assumes nothing.
-use mathlib.Core.Path.{sym, ap, _∙_}
-use native.Mathlib.Omega.{arith}
+use mathlib.Core.Path.{_≡_, sym, ap, _∙_}
+use Prim.Native.Nat.{ℕ}
 use borrow.Author.Needs.{needs}
 use Rattle.table.specs.Refusal.{firstFault}
+use Rattle.table.specs.Table.{badCount, outside}
 use Rattle.table.proofs.Table.{good-count}
 use Rattle.records.specs.Walks.{layoutOf}
 use Rattle.stored.specs.Layout.{walked}
+use Rattle.stored.specs.Marks.{storedVariables, storedPoints}
 use Rattle.stored.specs.Stored.{LaidOut, storedFault}
-use Rattle.stored.proofs.Laying.{table-length}
 use Rattle.stored.proofs.Accepting.{stored-layout, layout-laid}
 use Rattle.stored.proofs.stored_fault.Statement.{statement}
 use Rattle.stored.proofs.stored_fault.Tie as tie
@@ -30,20 +31,27 @@ laid c =
     let l = c .before in
     layout-laid (walked (l .before .before .before .args .bytes .now)) (sym (l .layout-fault .ensures ∙ ap layoutOf (l .before .walk-table .ensures)) ∙ c .if1 .left)
 
-shared-slice-read-n : tie.Need-shared-slice-read-n
-shared-slice-read-n c = omega (arith, table-length (c .before .before .before .before .before .args .bytes .now) (laid (c .before)))
-
-cast-n : tie.Need-cast-n
-cast-n c = omega (arith, c .shared-slice-known2 .given 1)
+variables-requires : tie.Need-variables-requires
+variables-requires c κs = laid c
 
 bad-count-requires : tie.Need-bad-count-requires
 bad-count-requires c κs = search needs
+
+-- The tests of n and of the points, as they are known once they are made.
+counted : (c : tie.After-bad-count) → badCount (storedVariables (c .before .before .before .before .before .before .args .bytes .now)) ≡ c .bad-count .result
+counted c = ap badCount (sym (c .before .variables .ensures)) ∙ sym (c .bad-count .ensures)
+
+surveyed : (c : tie.After-points-outside)
+    → let bytes = c .before .before .before .before .before .before .before .before .args .bytes .now in outside (storedVariables bytes) (storedPoints bytes) ≡ c .points-outside .result
+surveyed c =
+    let v = c .before .before .before in
+    ap (λ (n : ℕ). outside n (storedPoints (v .before .before .before .before .before .args .bytes .now))) (sym (v .variables .ensures)) ∙ sym (c .points-outside .ensures)
 
 returns-2 : tie.Need-returns-2
 unfolding storedFault firstFault
 returns-2 c =
     let b = c .before in
-    rw (laid (b .before .before), sym (b .bad-count .ensures) ∙ c .if2 .taken)
+    rw (laid (b .before .before), counted b ∙ c .if2 .taken)
 
 points-outside-requires : tie.Need-points-outside-requires
 points-outside-requires c κs =
@@ -55,7 +63,7 @@ unfolding storedFault firstFault
 returns-3 c =
     let o = c .before in
     let b = o .before .before in
-    rw (laid (b .before .before), sym (b .bad-count .ensures) ∙ o .before .if2 .left, sym (o .points-outside .ensures) ∙ c .if3 .taken)
+    rw (laid (b .before .before), counted b ∙ o .before .if2 .left, surveyed o ∙ c .if3 .taken)
 
 points-unordered-requires : tie.Need-points-unordered-requires
 points-unordered-requires c κs = laid (c .before .before .before .before .before)
@@ -66,12 +74,7 @@ returns-4 c =
     let u = c .before in
     let o = u .before .before in
     let b = o .before .before in
-    rw (
-      laid (b .before .before),
-      sym (b .bad-count .ensures) ∙ o .before .if2 .left,
-      sym (o .points-outside .ensures) ∙ u .before .if3 .left,
-      sym (u .points-unordered .ensures) ∙ c .if4 .taken,
-    )
+    rw (laid (b .before .before), counted b ∙ o .before .if2 .left, surveyed o ∙ u .before .if3 .left, sym (u .points-unordered .ensures) ∙ c .if4 .taken)
 
 returns-5 : tie.Need-returns-5
 unfolding storedFault firstFault
@@ -79,12 +82,7 @@ returns-5 c =
     let u = c .before in
     let o = u .before .before in
     let b = o .before .before in
-    rw (
-      laid (b .before .before),
-      sym (b .bad-count .ensures) ∙ o .before .if2 .left,
-      sym (o .points-outside .ensures) ∙ u .before .if3 .left,
-      sym (u .points-unordered .ensures) ∙ c .if4 .left,
-    )
+    rw (laid (b .before .before), counted b ∙ o .before .if2 .left, surveyed o ∙ u .before .if3 .left, sym (u .points-unordered .ensures) ∙ c .if4 .left)
 
 pub stored-fault-spec : {M : Type 1} → statement M
 stored-fault-spec =
@@ -93,8 +91,7 @@ stored-fault-spec =
     walk-table-requires
     layout-fault-requires
     returns
-    shared-slice-read-n
-    cast-n
+    variables-requires
     bad-count-requires
     returns-2
     points-outside-requires

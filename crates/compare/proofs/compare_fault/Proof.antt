@@ -1,0 +1,101 @@
+-- `compare::compare_fault` meets its contract: one law for each way that the tests can go. Assumes nothing.
+use mathlib.Core.Path.{_≡_, sym, ap, _∙_}
+use Prim.Native.Nat.{ℕ, _^_, _≤_}
+use native.Mathlib.Omega.{arith}
+use borrow.Author.Needs.{needs}
+use Rattle.gf2.specs.Limits.{maxVariables}
+use Rattle.stored.specs.Marks.{storedVariables}
+use Rattle.stored.specs.Stored.{storedFault}
+use Rattle.stored.proofs.Accepting.{stored-laid, stored-accepted}
+use Rattle.compare.specs.Answer.{tableSize}
+use Rattle.compare.proofs.Refusals.{compare-left, compare-right, compare-counts, compare-first, compare-sound}
+use Rattle.compare.proofs.compare_fault.Statement.{statement}
+use Rattle.compare.proofs.compare_fault.Tie as tie
+
+stored-fault-requires : tie.Need-stored-fault-requires
+stored-fault-requires c κs = search needs
+
+returns : tie.Need-returns
+returns c =
+    let f = c .before in
+    let a = f .before .before .before .args in
+    sym (compare-left (a .left .now) (a .right .now) (a .first) (f .stored-fault .result) (sym (f .stored-fault .ensures)) (c .if1 .taken))
+
+-- The left table is accepted.
+left-sound : (c : tie.Else1) → storedFault (c .before .before .before .before .args .left .now) ≡ 0
+left-sound c = sym (c .before .stored-fault .ensures) ∙ c .if1 .left
+
+stored-fault-requires-2 : tie.Need-stored-fault-requires-2
+stored-fault-requires-2 c κs = search needs
+
+returns-2 : tie.Need-returns-2
+returns-2 c =
+    let f = c .before in
+    let a = f .before .before .before .before .before .args in
+    sym (compare-right (a .left .now) (a .right .now) (a .first) (f .stored-fault2 .result) (left-sound (f .before)) (sym (f .stored-fault2 .ensures)) (c .if2 .taken))
+
+-- So is the right one.
+right-sound : (c : tie.Else2) → storedFault (c .before .before .before .before .before .before .args .right .now) ≡ 0
+right-sound c = sym (c .before .stored-fault2 .ensures) ∙ c .if2 .left
+
+variables-requires : tie.Need-variables-requires
+variables-requires c κs = let e = c .before .before in stored-laid (e .before .before .before .before .args .left .now) (left-sound e)
+
+variables-requires-2 : tie.Need-variables-requires-2
+variables-requires-2 c κs = let e = c .before in stored-laid (e .before .before .before .before .before .before .args .right .now) (right-sound e)
+
+returns-3 : tie.Need-returns-3
+returns-3 c =
+    let v = c .before in
+    let e = v .before .before in
+    let a = e .before .before .before .before .before .before .args in
+    sym (compare-counts (a .left .now) (a .right .now) (a .first) (left-sound (e .before .before)) (right-sound e)
+    (λ q. c .if3 .taken (v .before .variables .ensures ∙ q ∙ sym (v .variables2 .ensures))))
+
+-- Both have the same number of variables.
+counts : (c : tie.Else3)
+    → let a = c .before .before .before .before .before .before .before .before .before .args in storedVariables (a .left .now) ≡ storedVariables (a .right .now)
+counts c = let v = c .before in sym (v .before .variables .ensures) ∙ c .if3 .left ∙ v .variables2 .ensures
+
+point-count-requires : tie.Need-point-count-requires
+point-count-requires c κs =
+    let v = c .before .before in
+    let e = v .before .before .before in
+    omega (arith, v .variables .ensures, stored-accepted (e .before .before .before .before .args .left .now) (left-sound e) .few)
+
+cast-if4 : tie.Need-cast-if4
+cast-if4 c = search needs
+
+-- The number of points, as it was computed.
+size : (c : tie.After-point-count) → c .point-count .result ≡ tableSize (c .before .before .before .before .before .before .before .before .before .before .args .left .now)
+size c = c .point-count .ensures ∙ ap (λ (n : ℕ). 2 ^ n) (c .before .before .before .variables .ensures)
+
+returns-4 : tie.Need-returns-4
+returns-4 c =
+    let k = c .before .before in
+    let e = k .before .before .before in
+    let a = e .before .before .before .before .before .before .args in
+    sym (compare-first (a .left .now) (a .right .now) (a .first) (left-sound (e .before .before)) (right-sound e) (counts k) (omega (arith, size (c .before), c .if4 .taken)))
+
+returns-5 : tie.Need-returns-5
+returns-5 c =
+    let k = c .before .before in
+    let e = k .before .before .before in
+    let a = e .before .before .before .before .before .before .args in
+    sym (compare-sound (a .left .now) (a .right .now) (a .first) (left-sound (e .before .before)) (right-sound e) (counts k) (omega (arith, size (c .before), c .if4 .left)))
+
+pub compare-fault-spec : {M : Type 1} → statement M
+compare-fault-spec =
+    tie.close
+    (tie.spec
+    stored-fault-requires
+    returns
+    stored-fault-requires-2
+    returns-2
+    variables-requires
+    variables-requires-2
+    returns-3
+    point-count-requires
+    cast-if4
+    returns-4
+    returns-5)
