@@ -3,8 +3,9 @@
  *
  *     cc -Iinclude program.c target/staticlib/libglospruma.a
  *
- * To start from: examples/write_form.c, a stored table to the bytes of its form, and examples/form_points.c, these bytes to their points.
- * tests/c/examples.c makes every call. For Rust, the package in the folder rust has the same calls with slices.
+ * To start from: examples/write_form.c, a stored table to the bytes of its form, examples/form_points.c, these bytes to their points, and
+ * examples/compare.c, two stored tables to the points at which they differ. tests/c/examples.c makes every call. For Rust, the package in the
+ * folder rust has the same calls with slices.
  *
  * Points are numbers below 2^n; x1 is the highest bit of a point, xn its lowest. A table is a rising list of on points and a rising list of
  * free points; all other points are off. A mask names variables by the same bits.
@@ -41,7 +42,7 @@ extern "C" {
 #endif
 
 /* The version of this header and of the library, as in CHANGELOG.md. */
-#define GLOSPRUMA_VERSION "0.2.0"
+#define GLOSPRUMA_VERSION "0.3.0"
 
 /* The largest number of variables, of points of a table, and of variables of a listing; the bytes of the longest stored table. */
 #define GLOSPRUMA_MAX_VARIABLES 12
@@ -60,8 +61,21 @@ extern "C" {
 #define GLOSPRUMA_RECORD_LENGTH 8
 #define GLOSPRUMA_LISTING_ROOM 22600
 
-/* Each call tests what concerns it in the order 1, 2, 3, 4, 6, 5, 9, 7, and bytes for 8 first; the first that applies is given. When each is given is
- * what glospruma_refusal_text says; docs/CALLS.md has what to do about it. */
+/* The length of a record of a comparison: the point, low byte first, then its mark in the left table and its mark in the right one. And bytes of
+ * room that always suffice for all records of two tables: each of 4,096 points may differ. */
+#define GLOSPRUMA_DIFFERENCE_LENGTH 4
+#define GLOSPRUMA_COMPARISON_ROOM 16384
+
+/* The marks of such a record. */
+enum glospruma_mark {
+    GLOSPRUMA_OFF = 0,
+    GLOSPRUMA_ON = 1,
+    GLOSPRUMA_FREE = 2
+};
+
+/* Each call tests what concerns it in the order 1, 2, 3, 4, 6, 5, 9, 7, and bytes for 8 first; the first that applies is given. Of two tables the
+ * left one is tested so, then the right one, and 10 and 11 come last. When each is given is what glospruma_refusal_text says; docs/CALLS.md has
+ * what to do about it. */
 enum glospruma_refusal {
     GLOSPRUMA_ACCEPTED = 0,
     GLOSPRUMA_VARIABLES = 1,
@@ -72,7 +86,9 @@ enum glospruma_refusal {
     GLOSPRUMA_AFFINE = 6,
     GLOSPRUMA_ROOM = 7,
     GLOSPRUMA_LAYOUT = 8,
-    GLOSPRUMA_PLACE = 9
+    GLOSPRUMA_PLACE = 9,
+    GLOSPRUMA_COUNTS = 10,
+    GLOSPRUMA_FIRST_POINT = 11
 };
 
 /* When a number is given, in words; n-k is the number of variables that the restriction has. */
@@ -98,6 +114,10 @@ static inline const char *glospruma_refusal_text(unsigned number) {
         return "bytes aren't a form, or aren't laid out as a table";
     case GLOSPRUMA_PLACE:
         return "a listing place above the number of candidates";
+    case GLOSPRUMA_COUNTS:
+        return "two tables have different numbers of variables";
+    case GLOSPRUMA_FIRST_POINT:
+        return "a first point above 2^n";
     default:
         return "no call gives this number";
     }
@@ -125,6 +145,20 @@ typedef struct {
 /* Reads a stored table into two rooms. Refusals 8; 1, 2, 3; 7 if either room is short, and then neither is written. */
 glospruma_table_read glospruma_read_table(const uint8_t *bytes, size_t bytes_length, uint16_t *on, size_t on_length, uint16_t *free_points,
                                           size_t free_length);
+
+typedef struct {
+    uint8_t refusal;
+    size_t records; /* records of 4 bytes written */
+    size_t next;    /* the point to go on from: the first that differs and didn't fit, or 2^n when done */
+    size_t total;   /* points that differ in the whole tables, whatever the first point and the room */
+} glospruma_comparison;
+
+/* Two stored tables side by side: a record into the room for each point from `first` on that they mark differently, rising; a room that runs short
+ * stops the listing. Start at 0 and go on at `next` until it is 2^n: then `total` records have come. With room for a record every call gets
+ * further; with GLOSPRUMA_COMPARISON_ROOM one call does. Refusals 8; 1, 2, 3; 8; 1, 2, 3; 10, 11, of the left table first and then of the right
+ * one. The number doesn't tell which table it is of: where that matters, read each with glospruma_read_table first. */
+glospruma_comparison glospruma_compare(const uint8_t *left, size_t left_length, const uint8_t *right, size_t right_length, size_t first,
+                                       uint8_t *room, size_t room_length);
 
 typedef struct {
     uint8_t refusal;

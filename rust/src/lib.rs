@@ -1,7 +1,8 @@
 //! The calls of Glospruma: it reads a Boolean table with free points, finds its
 //! linear space, canonical variables, reduction equations and restriction, the
 //! smallest affine space of its on points and its primes, and writes it as an OR
-//! of ANDs of XORs. Follows document 01, section "What the library holds".
+//! of ANDs of XORs; and it lays two tables side by side. Follows document 01,
+//! section "What the library holds", and document 02.
 //!
 //! Points are numbers below 2^n, n from 1 to 12; x1 is the highest bit of a point
 //! and xn its lowest. A table is n, a rising list of on points and a rising list
@@ -42,6 +43,21 @@
 //! # Ok::<(), Refusal>(())
 //! ```
 //!
+//! Where two stored tables differ:
+//!
+//! ```
+//! use glospruma::{differences, Refusal};
+//!
+//! let left = [0x4E, 2, 0x4F, 1, 0, 0x4F, 2, 0, 0x45, 2, 0];
+//! let right = [0x4E, 2, 0x4F, 1, 0, 0x44, 2, 0, 0x4F, 3, 0, 0x45, 3, 0];
+//! for differing in differences(&left, &right)? {
+//!     println!("point {}: {}, {}", differing.point, differing.left, differing.right);
+//! }
+//! # let points: Vec<u16> = differences(&left, &right)?.map(|differing| differing.point).collect();
+//! # assert_eq!(points, [2, 3]);
+//! # Ok::<(), Refusal>(())
+//! ```
+//!
 //! [`raw`] has the same calls with their numbers as they come.
 //!
 //! To build: `rt staticlib glospruma` in the folder of the repository, once, and
@@ -50,12 +66,14 @@
 
 pub mod raw;
 
+mod comparison;
 mod forms;
 mod primes;
 mod refusal;
 mod spaces;
 mod stored;
 
+pub use comparison::{compare, differences, Comparison, Difference, Differences, Mark};
 pub use forms::{form_points, form_rewrite, write_form, FormPoints, RewrittenForm, WrittenForm};
 pub use primes::{list_primes, Listing, Prime};
 pub use raw::{Basis, ShortList};
@@ -95,6 +113,13 @@ pub const RECORD_LENGTH: usize = 8;
 /// Room that always suffices for all records of a table: six variables have 2,825
 /// spaces, and a space has at most one prime.
 pub const LISTING_ROOM: usize = 22_600;
+
+/// Bytes of a record of a comparison.
+pub const DIFFERENCE_LENGTH: usize = 4;
+
+/// Room that always suffices for all records of two tables: each of 4,096 points
+/// may differ.
+pub const COMPARISON_ROOM: usize = 16_384;
 
 /// The numbers of candidates of 1 to 6 variables: the places at which a listing
 /// ends.

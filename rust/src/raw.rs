@@ -5,7 +5,7 @@
 //!
 //! This module alone has `unsafe` in it. What a call means is said at the
 //! function of the same name in the package's root, which is the one to use.
-//! Follows document 01, section "Refusal numbers".
+//! Follows document 01, section "Refusal numbers", and document 02.
 
 #![allow(unsafe_code)]
 
@@ -59,6 +59,20 @@ pub struct TableRead {
     pub on_count: usize,
     /// Free points written.
     pub free_count: usize,
+}
+
+/// Numbers of [`compare`].
+#[repr(C)]
+#[derive(Clone, Copy, Debug, Default, PartialEq, Eq)]
+pub struct Comparison {
+    /// 0, or the refusal number.
+    pub refusal: u8,
+    /// Records written, 4 bytes each.
+    pub records: usize,
+    /// The point to go on from, or 2^n when done.
+    pub next: usize,
+    /// Points of the whole tables that differ.
+    pub total: usize,
 }
 
 /// Numbers of [`linear_space`].
@@ -191,6 +205,16 @@ extern "C" {
         free_length: usize,
     ) -> TableRead;
 
+    fn glospruma_compare(
+        left: *const u8,
+        left_length: usize,
+        right: *const u8,
+        right_length: usize,
+        first: usize,
+        room: *mut u8,
+        room_length: usize,
+    ) -> Comparison;
+
     fn glospruma_linear_space(n: usize, on: *const u16, on_length: usize) -> LinearSpace;
 
     fn glospruma_complete(
@@ -280,6 +304,23 @@ pub fn read_table(bytes: &[u8], on: &mut [u16], free: &mut [u16]) -> TableRead {
             on.len(),
             free.as_mut_ptr(),
             free.len(),
+        )
+    }
+}
+
+/// Lays two stored tables side by side; the records of the points that differ go
+/// to the room, from a first point on.
+#[inline]
+pub fn compare(left: &[u8], right: &[u8], first: usize, room: &mut [u8]) -> Comparison {
+    unsafe {
+        glospruma_compare(
+            left.as_ptr(),
+            left.len(),
+            right.as_ptr(),
+            right.len(),
+            first,
+            room.as_mut_ptr(),
+            room.len(),
         )
     }
 }

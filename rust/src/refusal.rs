@@ -1,4 +1,5 @@
-//! Why a call is refused. Follows document 01, section "Refusal numbers".
+//! Why a call is refused. Follows document 01, section "Refusal numbers", and for
+//! the numbers from 10 on document 02.
 
 use std::error::Error;
 use std::fmt;
@@ -35,11 +36,15 @@ pub enum Refusal {
     Layout = 8,
     /// A listing place above the number of candidates.
     Place = 9,
+    /// Two tables have different numbers of variables.
+    Counts = 10,
+    /// A first point above 2^n.
+    FirstPoint = 11,
 }
 
 impl Refusal {
     /// All refusals, by number.
-    pub const ALL: [Refusal; 9] = [
+    pub const ALL: [Refusal; 11] = [
         Refusal::Variables,
         Refusal::Point,
         Refusal::Order,
@@ -49,17 +54,19 @@ impl Refusal {
         Refusal::Room,
         Refusal::Layout,
         Refusal::Place,
+        Refusal::Counts,
+        Refusal::FirstPoint,
     ];
 }
 
-/// The refusal's number, 1 to 9.
+/// The refusal's number, 1 to 11.
 impl From<Refusal> for u8 {
     fn from(refusal: Refusal) -> u8 {
         refusal as u8
     }
 }
 
-/// The refusal of a number; any number but 1 to 9 is handed back.
+/// The refusal of a number; any number but 1 to 11 is handed back.
 impl TryFrom<u8> for Refusal {
     type Error = u8;
 
@@ -71,7 +78,7 @@ impl TryFrom<u8> for Refusal {
     }
 }
 
-/// When the refusal is given, in document 01's words.
+/// When the refusal is given, in words; those of 1 to 9 are document 01's.
 impl fmt::Display for Refusal {
     fn fmt(&self, formatter: &mut fmt::Formatter<'_>) -> fmt::Result {
         formatter.write_str(match self {
@@ -84,6 +91,8 @@ impl fmt::Display for Refusal {
             Refusal::Room => "an answer is longer than its lent room",
             Refusal::Layout => "bytes aren't a form, or aren't laid out as a table",
             Refusal::Place => "a listing place above the number of candidates",
+            Refusal::Counts => "two tables have different numbers of variables",
+            Refusal::FirstPoint => "a first point above 2^n",
         })
     }
 }

@@ -1,6 +1,6 @@
 //! Document 01's examples through the safe calls, with the answers that it
-//! prints; refusals of every number, after which lent memory is as it was; and
-//! the layout of the numbers that calls return. Every room is as long as its
+//! prints; refusals of each of its numbers, after which lent memory is as it was;
+//! and the layout of the numbers that calls return. Every room is as long as its
 //! answer, or a little longer, so that a tool that watches memory sees each
 //! access beyond. Follows document 01, section "Table of proved examples".
 
@@ -276,7 +276,7 @@ fn numbers_of_refusals() {
         assert_eq!(u8::from(refusal), number);
         assert_eq!(Refusal::try_from(number), Ok(refusal));
     }
-    for number in (0..=255).filter(|number| !(1..=9).contains(number)) {
+    for number in (0..=255).filter(|number| !(1..=11).contains(number)) {
         assert_eq!(Refusal::try_from(number), Err(number));
     }
 }
@@ -287,6 +287,7 @@ fn layout_of_numbers() {
     assert_eq!(size_of::<raw::ShortList>(), 32);
     assert_eq!(size_of::<raw::Basis>(), 32);
     assert_eq!(size_of::<raw::TableRead>(), 32);
+    assert_eq!(size_of::<raw::Comparison>(), 32);
     assert_eq!(size_of::<raw::LinearSpace>(), 48);
     assert_eq!(size_of::<raw::Completion>(), 40);
     assert_eq!(size_of::<raw::Analysis>(), 120);

@@ -1,6 +1,6 @@
-/* Document 01's examples P1 to P9 through include/glospruma.h, refusals of every number with lent memory compared, and the layout of the
- * answers. Prints how many cases passed, `N passed, 0 failed`, or what differs, and then exits with 1. To build and run it, in the folder of the
- * repository:
+/* Document 01's examples P1 to P9 and two tables side by side through include/glospruma.h, refusals of every number with lent memory compared,
+ * and the layout of the answers. Prints how many cases passed, `N passed, 0 failed`, or what differs, and then exits with 1. To build and run it,
+ * in the folder of the repository:
  *
  *     cc -std=c99 -Wall -Wextra -Werror -pedantic -Iinclude tests/c/examples.c target/staticlib/libglospruma.a -o target/examples && target/examples
  *
@@ -330,6 +330,152 @@ static void p9(void) {
     free(others.points);
 }
 
+/* The stored table whose marks these are, one letter for each of its 2^n points: 0 off, 1 on, - free. */
+static bytes stored_marks(uint8_t n, const char *marks) {
+    size_t point, records = 0;
+    bytes stored;
+    for (point = 0; marks[point] != 0; point++) {
+        records += marks[point] != '0';
+    }
+    stored = byte_room(2 + 3 * records + 3);
+    stored.bytes[0] = 0x4E;
+    stored.bytes[1] = n;
+    records = 0;
+    for (point = 0; marks[point] != 0; point++) {
+        if (marks[point] != '0') {
+            stored.bytes[2 + 3 * records] = marks[point] == '1' ? 0x4F : 0x44;
+            stored.bytes[3 + 3 * records] = (uint8_t)(point % 256);
+            stored.bytes[4 + 3 * records] = (uint8_t)(point / 256);
+            records++;
+        }
+    }
+    stored.bytes[2 + 3 * records] = 0x45;
+    stored.bytes[3 + 3 * records] = (uint8_t)(records % 256);
+    stored.bytes[4 + 3 * records] = (uint8_t)(records / 256);
+    return stored;
+}
+
+/* Bands of payload, and whether the retarder helps: one site cut them in short tons, which are lighter, the next in tonnes. */
+#define SHORT_TONS "000-111-"
+#define TONNES "0000-111"
+
+/* The points at which the two sites differ, and their records. */
+static const size_t sites_points[] = {3, 4, 7};
+static const uint8_t sites_records[] = {
+    3, 0, GLOSPRUMA_FREE, GLOSPRUMA_OFF,
+    4, 0, GLOSPRUMA_ON, GLOSPRUMA_FREE,
+    7, 0, GLOSPRUMA_FREE, GLOSPRUMA_ON,
+};
+
+static glospruma_comparison compare(bytes left, bytes right, size_t first, bytes room) {
+    return glospruma_compare(left.bytes, left.length, right.bytes, right.length, first, room.bytes, room.length);
+}
+
+static void side_by_side(void) {
+    static const uint8_t exchanged[] = {
+        3, 0, GLOSPRUMA_OFF, GLOSPRUMA_FREE,
+        4, 0, GLOSPRUMA_FREE, GLOSPRUMA_ON,
+        7, 0, GLOSPRUMA_ON, GLOSPRUMA_FREE,
+    };
+    bytes left = stored_marks(3, SHORT_TONS), right = stored_marks(3, TONNES);
+    bytes room = byte_room(sizeof sites_records + 5), other_room = byte_room(sizeof exchanged), untouched = byte_room(8);
+    glospruma_comparison found = compare(left, right, 0, room);
+    glospruma_comparison other = compare(right, left, 0, other_room);
+    glospruma_comparison same = compare(left, left, 0, untouched);
+    CHECK(found.refusal == GLOSPRUMA_ACCEPTED && found.records == 3 && found.next == 8 && found.total == 3);
+    CHECK(bytes_are(room, sites_records, sizeof sites_records));
+    CHECK(other.refusal == GLOSPRUMA_ACCEPTED && other.records == 3 && other.next == 8 && other.total == 3);
+    CHECK(bytes_are(other_room, exchanged, sizeof exchanged));
+    CHECK(same.refusal == GLOSPRUMA_ACCEPTED && same.records == 0 && same.next == 8 && same.total == 0);
+    CHECK(bytes_as_lent(untouched));
+    free(left.bytes);
+    free(right.bytes);
+}
+
+/* From every first point on into rooms of every length: the listing stops before the first record that doesn't fit. */
+static void side_by_side_in_pieces(void) {
+    bytes left = stored_marks(3, SHORT_TONS), right = stored_marks(3, TONNES);
+    size_t first, length;
+    for (first = 0; first <= 8; first++) {
+        size_t behind = 0;
+        while (behind < LENGTH(sites_points) && sites_points[behind] < first) {
+            behind++;
+        }
+        for (length = 0; length <= sizeof sites_records + 1; length++) {
+            size_t ahead = LENGTH(sites_points) - behind, fits = length / GLOSPRUMA_DIFFERENCE_LENGTH;
+            size_t records = ahead < fits ? ahead : fits;
+            bytes room = byte_room(length);
+            glospruma_comparison found = compare(left, right, first, room);
+            CHECK(found.refusal == GLOSPRUMA_ACCEPTED && found.records == records && found.total == LENGTH(sites_points));
+            CHECK(found.next == (records < ahead ? sites_points[behind + records] : 8));
+            CHECK(bytes_are(room, sites_records + GLOSPRUMA_DIFFERENCE_LENGTH * behind, GLOSPRUMA_DIFFERENCE_LENGTH * records));
+        }
+    }
+    free(left.bytes);
+    free(right.bytes);
+}
+
+/* All points of twelve variables differ, and the room that always suffices takes their records. */
+static void side_by_side_everywhere(void) {
+    static char marks[GLOSPRUMA_MAX_POINTS + 1];
+    bytes left, right, room = byte_room(GLOSPRUMA_COMPARISON_ROOM);
+    glospruma_comparison found;
+    size_t point;
+    memset(marks, '1', GLOSPRUMA_MAX_POINTS);
+    left = stored_marks(12, marks);
+    memset(marks, '0', GLOSPRUMA_MAX_POINTS);
+    right = stored_marks(12, marks);
+    found = compare(left, right, 0, room);
+    CHECK(left.length == GLOSPRUMA_TABLE_LENGTH);
+    CHECK(found.refusal == GLOSPRUMA_ACCEPTED && found.next == GLOSPRUMA_MAX_POINTS);
+    CHECK(found.records == GLOSPRUMA_MAX_POINTS && found.total == GLOSPRUMA_MAX_POINTS);
+    for (point = 0; point < GLOSPRUMA_MAX_POINTS; point++) {
+        const uint8_t *record = room.bytes + GLOSPRUMA_DIFFERENCE_LENGTH * point;
+        CHECK(record[0] + 256u * record[1] == point && record[2] == GLOSPRUMA_ON && record[3] == GLOSPRUMA_OFF);
+    }
+    free(left.bytes);
+    free(right.bytes);
+    free(room.bytes);
+}
+
+static void check_refused_comparison(bytes left, bytes right, size_t first, uint8_t refusal) {
+    bytes room = byte_room(sizeof sites_records);
+    glospruma_comparison found = compare(left, right, first, room);
+    CHECK(found.refusal == refusal && found.records == 0 && found.next == 0 && found.total == 0);
+    CHECK(bytes_as_lent(room));
+}
+
+/* The left table's refusals, then the right one's, then those of both. */
+static void refused_comparisons(void) {
+    static const uint8_t cut[] = {0x4E, 3, 0x45, 0}, thirteen[] = {0x4E, 13, 0x45, 0, 0}, large[] = {0x4E, 3, 0x4F, 8, 0, 0x45, 1, 0};
+    static const uint8_t twice[] = {0x4E, 3, 0x4F, 1, 0, 0x44, 1, 0, 0x45, 2, 0};
+    static const uint8_t refusals[] = {GLOSPRUMA_LAYOUT, GLOSPRUMA_VARIABLES, GLOSPRUMA_POINT, GLOSPRUMA_ORDER};
+    bytes faults[LENGTH(refusals)], left = stored_marks(3, SHORT_TONS), right = stored_marks(3, TONNES), small = stored_marks(2, "01-1");
+    size_t one, other;
+    faults[0] = byte_list(cut, sizeof cut);
+    faults[1] = byte_list(thirteen, sizeof thirteen);
+    faults[2] = byte_list(large, sizeof large);
+    faults[3] = byte_list(twice, sizeof twice);
+    for (one = 0; one < LENGTH(refusals); one++) {
+        check_refused_comparison(faults[one], right, 0, refusals[one]);
+        check_refused_comparison(left, faults[one], 0, refusals[one]);
+        check_refused_comparison(small, faults[one], SIZE_MAX, refusals[one]);
+        for (other = 0; other < LENGTH(refusals); other++) {
+            check_refused_comparison(faults[one], faults[other], SIZE_MAX, refusals[one]);
+        }
+    }
+    check_refused_comparison(left, small, 0, GLOSPRUMA_COUNTS);
+    check_refused_comparison(small, right, SIZE_MAX, GLOSPRUMA_COUNTS);
+    check_refused_comparison(left, right, 9, GLOSPRUMA_FIRST_POINT);
+    check_refused_comparison(left, left, SIZE_MAX, GLOSPRUMA_FIRST_POINT);
+    for (one = 0; one < LENGTH(refusals); one++) {
+        free(faults[one].bytes);
+    }
+    free(left.bytes);
+    free(right.bytes);
+    free(small.bytes);
+}
+
 /* A table that every call which takes it refuses with one number. */
 typedef struct {
     size_t n;
@@ -450,6 +596,7 @@ static void short_rooms(void) {
 static void layout(void) {
     CHECK(sizeof(glospruma_short_list) == 32 && sizeof(glospruma_basis) == 32);
     CHECK(sizeof(glospruma_table_read) == 32 && offsetof(glospruma_table_read, variables) == 8);
+    CHECK(sizeof(glospruma_comparison) == 32 && offsetof(glospruma_comparison, total) == 24);
     CHECK(sizeof(glospruma_space) == 48 && offsetof(glospruma_space, basis) == 16);
     CHECK(sizeof(glospruma_completion) == 40);
     CHECK(sizeof(glospruma_analysis) == 120 && offsetof(glospruma_analysis, count) == 112);
@@ -465,13 +612,13 @@ static void layout(void) {
  * documents elsewhere. */
 static void texts(void) {
     unsigned first, second;
-    for (first = GLOSPRUMA_ACCEPTED; first <= GLOSPRUMA_PLACE + 1; first++) {
+    for (first = GLOSPRUMA_ACCEPTED; first <= GLOSPRUMA_FIRST_POINT + 1; first++) {
         CHECK(strlen(glospruma_refusal_text(first)) > 0);
         for (second = GLOSPRUMA_ACCEPTED; second < first; second++) {
             CHECK(strcmp(glospruma_refusal_text(first), glospruma_refusal_text(second)) != 0);
         }
     }
-    CHECK(strcmp(glospruma_refusal_text(UINT8_MAX), glospruma_refusal_text(GLOSPRUMA_PLACE + 1)) == 0);
+    CHECK(strcmp(glospruma_refusal_text(UINT8_MAX), glospruma_refusal_text(GLOSPRUMA_FIRST_POINT + 1)) == 0);
     CHECK(strlen(GLOSPRUMA_VERSION) > 0);
 }
 
@@ -492,6 +639,10 @@ int main(void) {
         {"P7", p7},
         {"P8", p8},
         {"P9", p9},
+        {"two tables side by side", side_by_side},
+        {"two tables side by side, in pieces", side_by_side_in_pieces},
+        {"two tables side by side, everywhere", side_by_side_everywhere},
+        {"refused comparisons", refused_comparisons},
         {"refused tables", refused_tables},
         {"refused sizes", refused_sizes},
         {"refused bytes", refused_bytes},

@@ -5,3 +5,4 @@ pub mod Joining
 pub mod Writing
 pub mod Refusals
 pub mod Answering
+pub mod Examples

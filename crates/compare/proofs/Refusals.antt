@@ -1,52 +1,46 @@
 -- Laws of the refusals of comparing: one for each way that the tests can go, and that a call is accepted exactly where it is sound. Read next:
 -- Answering.
 use mathlib.Core.Path.{_≡_, refl, sym, _∙_}
-use mathlib.Core.Bool.{not}
 use mathlib.Core.Logic.{_≢_, _↔_}
-use mathlib.Core.List.{List, [], _∷_, _++_}
+use mathlib.Core.List.{List, _++_}
 use Prim.Native.Nat.{ℕ, _≤_, _<_}
 use native.Mathlib.Nat.{lt-of-not-le}
 use native.Mathlib.Decide.{decLe, ℕ-discrete}
 use native.Mathlib.Omega.{arith}
-use lib.Dec.{eqb, ltb}
 use borrow.Author.Tests.{eq-eqb, ne-eqb, lt-ltb, le-ltb}
-use Rattle.table.specs.Refusal.{Test, test, firstFault, countsFault, firstPointFault}
+use Rattle.table.specs.Refusal.{firstFault, countsFault, firstPointFault}
 use Rattle.table.proofs.Decide.{table-refused, table-passed}
 use Rattle.stored.specs.Marks.{storedVariables}
 use Rattle.stored.specs.Stored.{storedTests, storedFault}
 use Rattle.stored.proofs.Accepting.{stored-numbered}
-use Rattle.compare.specs.Answer.{tableSize, Comparable, compareFault}
+use Rattle.compare.specs.Answer.{tableSize, Comparable, pairTests, compareFault}
 
 module _ (left right : List ℕ) (first : ℕ) where
-  -- The tests after those of the two tables.
-  others : List Test
-  others = test countsFault (not (eqb (storedVariables left) (storedVariables right))) ∷ test firstPointFault (ltb (tableSize left) first) ∷ []
-
   pub compare-left : (k : ℕ) → storedFault left ≡ k → k ≢ 0 → compareFault left right first ≡ k
-  unfolding compareFault storedFault others
-  compare-left k e n = table-refused (storedTests left) (storedTests right ++ others) k e n
+  unfolding compareFault storedFault
+  compare-left k e n = table-refused (storedTests left) (storedTests right ++ pairTests left right first) k e n
 
   pub compare-right : (k : ℕ) → storedFault left ≡ 0 → storedFault right ≡ k → k ≢ 0 → compareFault left right first ≡ k
-  unfolding compareFault storedFault others
+  unfolding compareFault storedFault
   compare-right k e f n =
-      table-passed (storedTests left) (storedTests right ++ others) (stored-numbered left) e ∙ table-refused (storedTests right) others k f n
+      table-passed (storedTests left) (storedTests right ++ pairTests left right first) (stored-numbered left) e ∙ table-refused (storedTests right) (pairTests left right first) k f n
 
   module _ (e : storedFault left ≡ 0) (f : storedFault right ≡ 0) where
-    compare-others : compareFault left right first ≡ firstFault others
-    unfolding compareFault storedFault others
-    compare-others = table-passed (storedTests left) (storedTests right ++ others) (stored-numbered left) e ∙ table-passed (storedTests right) others (stored-numbered right) f
+    compare-pair : compareFault left right first ≡ firstFault (pairTests left right first)
+    unfolding compareFault storedFault
+    compare-pair = table-passed (storedTests left) (storedTests right ++ pairTests left right first) (stored-numbered left) e ∙ table-passed (storedTests right) (pairTests left right first) (stored-numbered right) f
 
     pub compare-counts : storedVariables left ≢ storedVariables right → compareFault left right first ≡ countsFault
-    unfolding firstFault others
-    compare-counts n = compare-others ∙ rw (ne-eqb (storedVariables left) (storedVariables right) n)
+    unfolding firstFault
+    compare-counts n = compare-pair ∙ rw (ne-eqb (storedVariables left) (storedVariables right) n)
 
     pub compare-first : storedVariables left ≡ storedVariables right → tableSize left < first → compareFault left right first ≡ firstPointFault
-    unfolding firstFault others
-    compare-first q h = compare-others ∙ rw (eq-eqb (storedVariables left) (storedVariables right) q, lt-ltb (tableSize left) first h)
+    unfolding firstFault
+    compare-first q h = compare-pair ∙ rw (eq-eqb (storedVariables left) (storedVariables right) q, lt-ltb (tableSize left) first h)
 
     pub compare-sound : storedVariables left ≡ storedVariables right → first ≤ tableSize left → compareFault left right first ≡ 0
-    unfolding firstFault others
-    compare-sound q h = compare-others ∙ rw (eq-eqb (storedVariables left) (storedVariables right) q, le-ltb (tableSize left) first h)
+    unfolding firstFault
+    compare-sound q h = compare-pair ∙ rw (eq-eqb (storedVariables left) (storedVariables right) q, le-ltb (tableSize left) first h)
 
   -- Accepted exactly where both tables are, have one number of variables, and the first point is at most 2 ^ n.
   pub compare-exactly : (compareFault left right first ≡ 0) ↔ (Comparable left right × (first ≤ tableSize left))

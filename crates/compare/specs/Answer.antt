@@ -24,15 +24,17 @@ pub record Comparable (left right : List ℕ) : Type 0 where
   pub right-sound : storedFault right ≡ 0
   pub counts : storedVariables left ≡ storedVariables right
 
--- The tests in their order: all of the left table's, so that its number is reported where both are refused, then all of the right one's; then that
--- the variable counts differ; then that the first point is above 2 ^ n. A room that is short stops the listing and is no fault.
-abbrev pub compareTests : List ℕ → List ℕ → ℕ → List Test
-compareTests left right first =
-    storedTests left
-    ++ (storedTests right
-    ++ (test countsFault (not (eqb (storedVariables left) (storedVariables right))) ∷
+-- The tests of both tables together: that the variable counts differ, then that the first point is above 2 ^ n.
+abbrev pub pairTests : List ℕ → List ℕ → ℕ → List Test
+pairTests left right first =
+    test countsFault (not (eqb (storedVariables left) (storedVariables right))) ∷
     test firstPointFault (ltb (tableSize left) first) ∷
-    []))
+    []
+
+-- The tests in their order: all of the left table's, so that its number is reported where both are refused, then all of the right one's, then those of
+-- both together. A room that is short stops the listing and is no fault.
+abbrev pub compareTests : List ℕ → List ℕ → ℕ → List Test
+compareTests left right first = storedTests left ++ (storedTests right ++ pairTests left right first)
 
 -- The refusal of comparing, or 0. That it is 0 exactly for two comparable tables and a first point of at most 2 ^ n is `compare-exactly`.
 unfoldable pub compareFault : List ℕ → List ℕ → ℕ → ℕ

@@ -53,12 +53,12 @@ fn compare_fault(left: &[u8], right: &[u8], first: usize) -> u8
     0
 }
 
-// How many points below the size differ.
+// How many points below the size differ. Counted in 16 bits, of which the compiler adds up more at once than of 64.
 fn count_differing(left: &[u8; MAX_POINTS], right: &[u8; MAX_POINTS], size: usize) -> usize
     requires { ⌜ size ≤ maxPoints ⌝ }
     ensures { λ r. ⌜ r ≡ length (differing (markAt (now (left .entry))) (markAt (now (right .entry))) size) ⌝ }
 {
-    let mut count = 0;
+    let mut count: u16 = 0;
     let mut p = 0;
     while p < size {
         if left[p] != right[p] {
@@ -66,7 +66,7 @@ fn count_differing(left: &[u8; MAX_POINTS], right: &[u8; MAX_POINTS], size: usiz
         }
         p += 1;
     }
-    count
+    count as usize
 }
 
 // The record of a differing point at a place.

@@ -43,7 +43,8 @@ cast-size : tie.Need-cast-size
 cast-size c = search needs
 
 -- The number of points, as it was computed.
-size : (c : tie.After-point-count) → c .point-count .result ≡ tableSize (c .before .before .before .before .before .before .before .args .left .now)
+size : (c : tie.After-point-count)
+    → let e = c .before .before in c .point-count .result ≡ tableSize (e .before .before .before .before .before .args .left .now)
 size c = c .point-count .ensures ∙ ap (λ (n : ℕ). 2 ^ n) (c .before .variables .ensures)
 
 within : (c : tie.After-point-count) → c .point-count .result ≤ maxPoints
@@ -60,7 +61,8 @@ count-differing-requires c κs = within (c .before .before .before .before)
 
 write-differing-requires : tie.Need-write-differing-requires
 write-differing-requires c κs =
-    let p = c .before .before .before .before .before .before .before .before in
+    let m = c .before .before .before .before .before .before in
+    let p = m .before .before in
     (omega (arith, sound (p .before .before) .1, size p), within p)
 
 same-length : tie.Need-same-length

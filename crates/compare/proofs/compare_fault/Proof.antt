@@ -31,30 +31,36 @@ stored-fault-requires-2 c κs = search needs
 returns-2 : tie.Need-returns-2
 returns-2 c =
     let f = c .before in
-    let a = f .before .before .before .before .before .args in
-    sym (compare-right (a .left .now) (a .right .now) (a .first) (f .stored-fault2 .result) (left-sound (f .before)) (sym (f .stored-fault2 .ensures)) (c .if2 .taken))
+    let e = f .before in
+    let a = e .before .before .before .before .args in
+    sym (compare-right (a .left .now) (a .right .now) (a .first) (f .stored-fault2 .result) (left-sound e) (sym (f .stored-fault2 .ensures)) (c .if2 .taken))
 
 -- So is the right one.
-right-sound : (c : tie.Else2) → storedFault (c .before .before .before .before .before .before .args .right .now) ≡ 0
+right-sound : (c : tie.Else2) → let e = c .before .before in storedFault (e .before .before .before .before .args .right .now) ≡ 0
 right-sound c = sym (c .before .stored-fault2 .ensures) ∙ c .if2 .left
 
 variables-requires : tie.Need-variables-requires
 variables-requires c κs = let e = c .before .before in stored-laid (e .before .before .before .before .args .left .now) (left-sound e)
 
 variables-requires-2 : tie.Need-variables-requires-2
-variables-requires-2 c κs = let e = c .before in stored-laid (e .before .before .before .before .before .before .args .right .now) (right-sound e)
+variables-requires-2 c κs =
+    let s = c .before in
+    let e = s .before .before in
+    stored-laid (e .before .before .before .before .args .right .now) (right-sound s)
 
 returns-3 : tie.Need-returns-3
 returns-3 c =
     let v = c .before in
-    let e = v .before .before in
-    let a = e .before .before .before .before .before .before .args in
-    sym (compare-counts (a .left .now) (a .right .now) (a .first) (left-sound (e .before .before)) (right-sound e)
-    (λ q. c .if3 .taken (v .before .variables .ensures ∙ q ∙ sym (v .variables2 .ensures))))
+    let s = v .before .before in
+    let e = s .before .before in
+    let a = e .before .before .before .before .args in
+    sym (compare-counts (a .left .now) (a .right .now) (a .first) (left-sound e) (right-sound s) (λ q. c .if3 .taken (v .before .variables .ensures ∙ q ∙ sym (v .variables2 .ensures))))
 
 -- Both have the same number of variables.
 counts : (c : tie.Else3)
-    → let a = c .before .before .before .before .before .before .before .before .before .args in storedVariables (a .left .now) ≡ storedVariables (a .right .now)
+    → let e = c .before .before .before .before .before in
+    let a = e .before .before .before .before .args in
+    storedVariables (a .left .now) ≡ storedVariables (a .right .now)
 counts c = let v = c .before in sym (v .before .variables .ensures) ∙ c .if3 .left ∙ v .variables2 .ensures
 
 point-count-requires : tie.Need-point-count-requires
@@ -67,22 +73,25 @@ cast-if4 : tie.Need-cast-if4
 cast-if4 c = search needs
 
 -- The number of points, as it was computed.
-size : (c : tie.After-point-count) → c .point-count .result ≡ tableSize (c .before .before .before .before .before .before .before .before .before .before .args .left .now)
+size : (c : tie.After-point-count)
+    → let e = c .before .before .before .before .before .before in c .point-count .result ≡ tableSize (e .before .before .before .before .args .left .now)
 size c = c .point-count .ensures ∙ ap (λ (n : ℕ). 2 ^ n) (c .before .before .before .variables .ensures)
 
 returns-4 : tie.Need-returns-4
 returns-4 c =
     let k = c .before .before in
-    let e = k .before .before .before in
-    let a = e .before .before .before .before .before .before .args in
-    sym (compare-first (a .left .now) (a .right .now) (a .first) (left-sound (e .before .before)) (right-sound e) (counts k) (omega (arith, size (c .before), c .if4 .taken)))
+    let s = k .before .before .before in
+    let e = s .before .before in
+    let a = e .before .before .before .before .args in
+    sym (compare-first (a .left .now) (a .right .now) (a .first) (left-sound e) (right-sound s) (counts k) (omega (arith, size (c .before), c .if4 .taken)))
 
 returns-5 : tie.Need-returns-5
 returns-5 c =
     let k = c .before .before in
-    let e = k .before .before .before in
-    let a = e .before .before .before .before .before .before .args in
-    sym (compare-sound (a .left .now) (a .right .now) (a .first) (left-sound (e .before .before)) (right-sound e) (counts k) (omega (arith, size (c .before), c .if4 .left)))
+    let s = k .before .before .before in
+    let e = s .before .before in
+    let a = e .before .before .before .before .args in
+    sym (compare-sound (a .left .now) (a .right .now) (a .first) (left-sound e) (right-sound s) (counts k) (omega (arith, size (c .before), c .if4 .left)))
 
 pub compare-fault-spec : {M : Type 1} → statement M
 compare-fault-spec =

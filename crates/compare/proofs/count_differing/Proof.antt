@@ -54,6 +54,12 @@ loop-again c =
           (λ w. count-step t (l .p) (l .count) (c .if1 .count) (l .inv .1) false (rw (eq-eqb _ _ (w .0 .left))) (w .1)) (c .if1 .came),
     )
 
+cast-result : tie.Need-cast-result Inv-loop μ-loop
+cast-result c =
+    let l = c .before .loop in
+    let a = c .before .before .args in
+    omega (arith, l .inv .1, select-length (differs (markAt (a .left .now)) (markAt (a .right .now))) (l .p))
+
 returns : tie.Need-returns Inv-loop μ-loop
 unfolding differing
 returns c =
@@ -75,4 +81,5 @@ count-differing-spec =
     add-p
     loop-less
     loop-again
+    cast-result
     returns)

@@ -34,27 +34,27 @@ loop-less c = search needs
 
 loop-again : tie.Need-loop-again Inv-loop μ-loop
 loop-again c =
-    let i = c .before .before .before .before .loop .inv in
-    let a = c .before .before .before .before .before .before .args in
+    let l = c .before .before .before .before in
+    let i = l .loop .inv in
+    let a = l .before .before .args in
     (omega arith, i .1, passed-same (markAt (a .left .now)) (markAt (a .right .now)) (a .first) (a .room .now) (i .2) (c .if1 .taken))
 
 same-length : tie.Need-same-length Inv-loop μ-loop
 same-length c =
-    let loop = c .before .before .before .before .before .loop in
-    let a = c .before .before .before .before .before .before .before .args in
-    passed-length (markAt (a .left .now)) (markAt (a .right .now)) (a .first) (a .room .now) (loop .inv .2)
+    let l = c .before .before .before .before .before in
+    let a = l .before .before .args in
+    passed-length (markAt (a .left .now)) (markAt (a .right .now)) (a .first) (a .room .now) (l .loop .inv .2)
 
 returns : tie.Need-returns Inv-loop μ-loop
 returns c =
     let e = c .before in
-    let loop = e .before .before .before .before .loop in
-    let a = e .before .before .before .before .before .before .args in
-    passed-stops (markAt (a .left .now)) (markAt (a .right .now)) (a .first) (a .room .now) (loop .inv .2) (a .size) (e .before .before .before .loop-test .taken) (e .if1 .left) (c .if2 .taken)
+    let l = e .before .before .before .before in
+    let a = l .before .before .args in
+    passed-stops (markAt (a .left .now)) (markAt (a .right .now)) (a .first) (a .room .now) (l .loop .inv .2) (a .size) (e .before .before .before .loop-test .taken) (e .if1 .left) (c .if2 .taken)
 
--- In the loop, before a differing point that fits.
+-- Before a differing point that fits.
 room-left : (c : tie.Else2 Inv-loop μ-loop)
-    → let loop = c .before .before .before .before .before .loop in
-    differenceLength * loop .records + differenceLength ≤ length (c .before .before .before .before .before .before .before .args .room .now)
+    → let l = c .before .before .before .before .before in differenceLength * l .loop .records + differenceLength ≤ length (l .before .before .args .room .now)
 room-left c = omega (arith, c .before .before .before .before .before .loop .inv .1, c .if2 .left)
 
 mul-put-difference : tie.Need-mul-put-difference Inv-loop μ-loop
@@ -72,9 +72,9 @@ element-copy-out-put-difference-2 c = search needs
 put-difference-requires : tie.Need-put-difference-requires Inv-loop μ-loop
 put-difference-requires c κs =
     let e = c .before .before .before in
-    let loop = e .before .before .before .before .before .loop in
-    let a = e .before .before .before .before .before .before .before .args in
-    omega (arith, room-left e, passed-length (markAt (a .left .now)) (markAt (a .right .now)) (a .first) (a .room .now) (loop .inv .2))
+    let l = e .before .before .before .before .before in
+    let a = l .before .before .args in
+    omega (arith, room-left e, passed-length (markAt (a .left .now)) (markAt (a .right .now)) (a .first) (a .room .now) (l .loop .inv .2))
 
 add-records : tie.Need-add-records Inv-loop μ-loop
 add-records c = omega (arith, room-left (c .before .before .before .before .before .before))
@@ -89,11 +89,11 @@ loop-again-2 : tie.Need-loop-again-2 Inv-loop μ-loop
 loop-again-2 c =
     let d = c .before .before in
     let e = d .before .before .before .before in
-    let i = e .before .before .before .before .before .loop .inv in
-    let a = e .before .before .before .before .before .before .before .args in (
+    let l = e .before .before .before .before .before in
+    let a = l .before .before .args in (
       omega (arith, e .before .before .before .before .loop-test .taken),
-      omega (arith, i .1, e .if2 .left),
-      rw (d .put-difference .ensures) (passed-more (markAt (a .left .now)) (markAt (a .right .now)) (a .first) (a .room .now) (i .2) (e .before .if1 .left) (room-left e)),
+      omega (arith, l .loop .inv .1, e .if2 .left),
+      rw (d .put-difference .ensures) (passed-more (markAt (a .left .now)) (markAt (a .right .now)) (a .first) (a .room .now) (l .loop .inv .2) (e .before .if1 .left) (room-left e)),
     )
 
 same-length-2 : tie.Need-same-length-2 Inv-loop μ-loop

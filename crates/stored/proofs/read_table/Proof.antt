@@ -49,7 +49,8 @@ write-points-requires-2 c κs =
 
 variables-requires : tie.Need-variables-requires
 variables-requires c κs =
-    let e = c .before .before .before .before .before .before .before .before in
+    let w = c .before .before .before in
+    let e = w .before .before .before .before .before in
     let a = e .before .before .before .before .before .args in
     stored-laid (a .bytes .now) (read-fits (a .bytes .now) (length (a .on .now)) (length (a .free .now)) (accepted e) .0)
 

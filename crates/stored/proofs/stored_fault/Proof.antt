@@ -42,7 +42,9 @@ counted : (c : tie.After-bad-count) → badCount (storedVariables (c .before .be
 counted c = ap badCount (sym (c .before .variables .ensures)) ∙ sym (c .bad-count .ensures)
 
 surveyed : (c : tie.After-points-outside)
-    → let bytes = c .before .before .before .before .before .before .before .before .args .bytes .now in outside (storedVariables bytes) (storedPoints bytes) ≡ c .points-outside .result
+    → let v = c .before .before .before in
+    let bytes = v .before .before .before .before .before .args .bytes .now in
+    outside (storedVariables bytes) (storedPoints bytes) ≡ c .points-outside .result
 surveyed c =
     let v = c .before .before .before in
     ap (λ (n : ℕ). outside n (storedPoints (v .before .before .before .before .before .args .bytes .now))) (sym (v .variables .ensures)) ∙ sym (c .points-outside .ensures)
