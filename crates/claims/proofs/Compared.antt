@@ -1,10 +1,10 @@
 -- The claim about two tables side by side holds of every two accepted tables of one number of variables, every first point of at most 2 ^ n, and every
 -- list of calls that goes on from there. Read next: Examples.
 use mathlib.Core.Path.{_≡_, refl, sym, ap, ap₂, _∙_, subst}
-use mathlib.Core.Bool.{Bool, true, false, cond, _&&_}
-use mathlib.Core.Logic.{_⊎_, inl, inr, _≢_, _↔_}
+use mathlib.Core.Bool.{Bool, true, false, cond}
+use mathlib.Core.Logic.{_⊎_, inl, inr, _≢_}
 use mathlib.Core.List.{List, [], _∷_, _++_, flatMap, append-assoc, append-nil}
-use Prim.Native.Nat.{ℕ, suc, _+_, _*_, _^_, _≤_, _<_}
+use Prim.Native.Nat.{ℕ, _+_, _*_, _^_, _≤_, _<_}
 use native.Mathlib.Nat.{eq-or-lt-of-le}
 use native.Mathlib.Decide.{ℕ-discrete}
 use native.Mathlib.Omega.{arith}
@@ -12,8 +12,8 @@ use lib.ListN.{length, take, drop, getD, length-append}
 use lib.Seq.{take-at, drop-at}
 use lib.Dec.{eqb, leb}
 use borrow.Author.Tests.{eq-eqb, ne-eqb, eqb-true, leb-true}
-use Rattle.gf2.specs.Finite.{Mem, Ordered, Rising, select}
-use Rattle.gf2.proofs.Logic.{clash, and-l, and-r}
+use Rattle.gf2.specs.Finite.{Mem, Rising}
+use Rattle.gf2.proofs.Logic.{and-l, and-r}
 use Rattle.table.specs.Decision.{front}
 use Rattle.table.proofs.Decide.{decide-number}
 use Rattle.records.proofs.KindBytes.{word-of-bytes}
@@ -26,13 +26,13 @@ use Rattle.cubes.proofs.Lists.{ordered-with}
 use Rattle.point_marks.specs.Marks.{storedMark}
 use Rattle.point_marks.proofs.Marks.{marked-on, marked-free, marked-off}
 use Rattle.compare.specs.declared.Comparison.{Comparison}
-use Rattle.compare.specs.Differences.{isListed, differenceLength, differenceOf, differencesOf, fitting, differing, differingFrom, handedPoints, nextPoint}
-use Rattle.compare.specs.Answer.{tableSize, Comparable, compareTests, compareFault, compareAccepted, compareRefused, compareAnswer, compareAfter}
+use Rattle.compare.specs.Differences.{isListed, differenceLength, differenceOf, differencesOf, fitting, differingFrom, nextPoint}
+use Rattle.compare.specs.Answer.{tableSize, Comparable, compareTests, compareFault, compareAccepted, compareRefused, compareAnswer}
 use Rattle.compare.proofs.Records.{differences-length, differences-append}
 use Rattle.compare.proofs.Stopping.{Stop}
 use Rattle.compare.proofs.Joining.{listed-differs, from-mem, from-rising, differing-all, from-none, from-add, from-exchange, from-same}
 use Rattle.compare.proofs.Refusals.{compare-exactly}
-use Rattle.compare.proofs.Answering.{compare-stop, next-within, handed-before, compare-refused, compare-accepted}
+use Rattle.compare.proofs.Answering.{compare-stop, handed-before, compare-refused, compare-accepted}
 use Rattle.claims.specs.Demand3.{sumOf}
 use Rattle.claims.specs.Compared.{Comparing, returned, roomReturned, handedRecords, exchanged, exchangedMarks, MarkedAs, pointAfter, GoesOn, pointReached, hasRoom, between, allDiffering, recordOfPoint, StopsBefore, DiffersNowhere, ExchangesMarks, Compared}
 

@@ -55,7 +55,7 @@ use Rattle.compare.proofs.Joining.{from-length}
 use Rattle.claims.specs.Compared.{Comparing, returned}
 use Rattle.claims.specs.Rooms.{RoomsSuffice}
 use Rattle.claims.proofs.FormBytes.{products-length, written-fits}
-use Rattle.claims.proofs.Compared.{Taken, taken, taken-at}
+use Rattle.claims.proofs.Compared.{taken, taken-at}
 
 -- ---- stored tables
 

@@ -1,22 +1,21 @@
 -- The answer of comparing and the room after it, by the decision over its tests, and from marks that stand in two arrays. Read next: crate `claims`.
-use mathlib.Core.Path.{_≡_, refl, sym, ap, ap₂, _∙_}
+use mathlib.Core.Path.{_≡_, sym, ap, _∙_}
 use mathlib.Core.Logic.{_≢_, inl, inr}
 use mathlib.Core.List.{List}
-use Prim.Native.Nat.{ℕ, _^_, _≤_, _<_}
+use Prim.Native.Nat.{ℕ, _≤_, _<_}
 use native.Mathlib.Omega.{arith}
 use lib.ListN.{length, take}
 use lib.Pow.{pow-mono}
-use Rattle.gf2.specs.Finite.{Mem, select}
+use Rattle.gf2.specs.Finite.{Mem}
 use Rattle.gf2.proofs.Finite.{select-ext, select-mem}
 use Rattle.table.specs.Decision.{front}
 use Rattle.table.specs.Flags.{maxPoints}
 use Rattle.table.proofs.Decide.{decide-accepted, decide-refused}
-use Rattle.stored.specs.Marks.{storedVariables}
 use Rattle.stored.proofs.Accepting.{stored-accepted}
 use Rattle.point_marks.specs.Marks.{storedMark, markAt, MarksOf}
 use Rattle.compare.specs.declared.Stopped.{Stopped}
 use Rattle.compare.specs.Differences.{differs, differing, isListed, differingFrom, differencesOf, fitting, handedPoints, handedBytes, nextPoint, stoppedAt}
-use Rattle.compare.specs.Answer.{tableSize, Comparable, compareTests, compareFault, compareBytes, compareAccepted, compareRefused, compareAnswer, compareAfter}
+use Rattle.compare.specs.Answer.{tableSize, compareTests, compareFault, compareBytes, compareAccepted, compareRefused, compareAnswer, compareAfter}
 use Rattle.compare.proofs.Records.{differences-ext}
 use Rattle.compare.proofs.Stopping.{Stop, stop}
 use Rattle.compare.proofs.Refusals.{compare-exactly}

@@ -1,10 +1,10 @@
 -- Laws about the records of differing points: their bytes in all, one more record, and that only the marks of the points matter. Read next: Stopping.
-use mathlib.Core.Path.{_≡_, refl, ap, ap₂, _∙_}
+use mathlib.Core.Path.{_≡_, refl}
 use mathlib.Core.Logic.{inl, inr}
 use mathlib.Core.List.{List, [], _∷_, _++_, flatMap}
 use Prim.Native.Nat.{ℕ, _*_}
 use native.Mathlib.Omega.{arith}
-use lib.ListN.{length, length-append}
+use lib.ListN.{length}
 use Rattle.gf2.specs.Finite.{Mem}
 use Rattle.gf2.proofs.Finite.{flatMap-append}
 use Rattle.compare.specs.Differences.{differenceLength, differenceOf, differencesOf}

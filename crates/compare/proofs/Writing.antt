@@ -1,6 +1,6 @@
 -- The listing of differing points turn by turn, as the loop of `write_differing` goes: one law for each way through a turn. Read next: Answering.
-use mathlib.Core.Path.{_≡_, refl, sym, ap, _∙_}
-use mathlib.Core.Bool.{Bool, true, false, _&&_}
+use mathlib.Core.Path.{_≡_, sym, ap, _∙_}
+use mathlib.Core.Bool.{Bool, true, false}
 use mathlib.Core.Logic.{_≢_}
 use mathlib.Core.List.{List, [], _∷_, _++_, flatMap}
 use Prim.Native.Nat.{ℕ, _+_, _*_, _/_, _≤_, _<_}
@@ -9,15 +9,13 @@ use native.Mathlib.Omega.{arith}
 use lib.Dec.{leb}
 use lib.ListN.{length, length-append}
 use lib.Seq.{sets, length-sets}
-use borrow.Author.Tests.{eq-eqb, ne-eqb, le-leb, leb-true}
+use borrow.Author.Tests.{eq-eqb, ne-eqb, le-leb}
 use Rattle.gf2.specs.Finite.{select}
-use Rattle.gf2.proofs.Logic.{and-false, and-l}
-use Rattle.gf2.proofs.Finite.{select-on, select-off, select-none}
+use Rattle.gf2.proofs.Logic.{and-false}
+use Rattle.gf2.proofs.Finite.{select-on, select-off}
 use Rattle.table.specs.Decision.{front}
 use Rattle.table.proofs.Fill.{sets-append, sets-front}
-use Rattle.table.proofs.Table.{refuted}
-use Rattle.compare.specs.Differences.{differs, isListed, differingFrom, differenceLength, differenceOf, differencesOf, handedPoints, handedBytes, nextPoint, stoppedAt}
-use Rattle.compare.specs.declared.Stopped.{Stopped}
+use Rattle.compare.specs.Differences.{isListed, differingFrom, differenceLength, differenceOf, differencesOf, handedPoints, handedBytes, nextPoint, stoppedAt}
 use Rattle.compare.proofs.Records.{differences-length, differences-append, differences-one}
 use Rattle.compare.proofs.Stopping.{stops, ends}
 use Rattle.compare.proofs.Joining.{from-none}

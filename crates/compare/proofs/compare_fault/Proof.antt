@@ -1,9 +1,8 @@
 -- `compare::compare_fault` meets its contract: one law for each way that the tests can go. Assumes nothing.
 use mathlib.Core.Path.{_≡_, sym, ap, _∙_}
-use Prim.Native.Nat.{ℕ, _^_, _≤_}
+use Prim.Native.Nat.{ℕ, _^_}
 use native.Mathlib.Omega.{arith}
 use borrow.Author.Needs.{needs}
-use Rattle.gf2.specs.Limits.{maxVariables}
 use Rattle.stored.specs.Marks.{storedVariables}
 use Rattle.stored.specs.Stored.{storedFault}
 use Rattle.stored.proofs.Accepting.{stored-laid, stored-accepted}

@@ -1,12 +1,9 @@
 -- `stored::read_table` meets its contract: the one decision says what is returned and what stands in both rooms. Assumes nothing.
 use mathlib.Core.Path.{_≡_, sym, ap, _∙_}
 use mathlib.Core.Logic.{_≢_}
-use Prim.Native.Nat.{_<_}
-use native.Mathlib.Omega.{arith}
 use borrow.Author.Needs.{needs}
 use lib.ListN.{length}
 use Rattle.stored.specs.Reading.{readFault, readRefused}
-use Rattle.stored.proofs.Laying.{table-length}
 use Rattle.stored.proofs.Accepting.{stored-laid}
 use Rattle.stored.proofs.Rooms.{read-fits, refused-read, refused-on, refused-free, accepted-read, accepted-on, accepted-free}
 use Rattle.stored.proofs.read_table.Statement.{statement}
