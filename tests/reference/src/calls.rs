@@ -1,8 +1,9 @@
 //! The public calls: each takes lent rooms and returns its numbers, the refusal
 //! first. A refused call returns its number with all others 0 and leaves lent
 //! memory as it was; so is unused room after an accepted answer.
-//! Follows document 01, section "Refusal numbers".
+//! Follows document 01, section "Refusal numbers", and document 02, No. 1.
 
+use crate::compare;
 use crate::cover;
 use crate::form;
 use crate::numbers::*;
@@ -170,6 +171,23 @@ pub fn list_primes(
         Err(refusal) => ListingNumbers {
             refusal,
             ..ListingNumbers::default()
+        },
+    }
+}
+
+/// Compares two stored tables from a first point on. Refusals 8, 1, 2, 3 of the
+/// left table, the same of the right one, 10, 11.
+pub fn compare(left: &[u8], right: &[u8], first: usize, room: &mut [u8]) -> ComparisonNumbers {
+    match compare::compare(left, right, first, room) {
+        Ok(comparison) => ComparisonNumbers {
+            refusal: refusal::NONE,
+            records: comparison.records,
+            next_point: comparison.next_point,
+            total: comparison.total,
+        },
+        Err(refusal) => ComparisonNumbers {
+            refusal,
+            ..ComparisonNumbers::default()
         },
     }
 }

@@ -4,7 +4,7 @@
 
 use crate::form::{self, Factor, Form, Product};
 use crate::space;
-use crate::table::Table;
+use crate::table::{Table, MOST_VARIABLES};
 use crate::walk;
 
 /// A generator of 64-bit numbers (the splitmix64 rule).
@@ -230,7 +230,8 @@ pub fn random_records(generator: &mut Generator, most_records: usize) -> Vec<u8>
         (walk::KIND_FREE, 2),
         (walk::KIND_VARIABLES, 1),
     ];
-    let mut bytes = vec![walk::KIND_VARIABLES, generator.below(14) as u8];
+    let variables = generator.below(MOST_VARIABLES + 2);
+    let mut bytes = vec![walk::KIND_VARIABLES, variables as u8];
     for _ in 0..generator.below(most_records + 1) {
         let (kind, length) = bodies[generator.below(bodies.len())];
         bytes.push(kind);

@@ -1,8 +1,9 @@
 //! A plain reference for the whole library, written from the definitions and
 //! made to judge, not to be fast. Follows document 01, section "What the
-//! library holds"; each module names the section that it follows.
+//! library holds", and document 02; each module names what it follows.
 
 pub mod calls;
+pub mod compare;
 pub mod cover;
 pub mod form;
 pub mod generate;

@@ -2,11 +2,13 @@
 //! Follows document 01, section "Refusal numbers": a refused call returns its
 //! number with all others 0, which is each type's default with a refusal set.
 
-/// Up to twelve numbers held by value; unused entries are 0.
+use crate::table::MOST_VARIABLES;
+
+/// At most as many numbers as variables, held by value; unused entries are 0.
 #[derive(Clone, Copy, Debug, Default, PartialEq, Eq)]
 pub struct ShortList {
     pub length: usize,
-    pub entries: [u16; 12],
+    pub entries: [u16; MOST_VARIABLES],
 }
 
 /// Numbers of the call that reads a stored table.
@@ -68,6 +70,15 @@ pub struct ListingNumbers {
     pub records: usize,
 }
 
+/// Numbers of the call that compares two stored tables.
+#[derive(Clone, Copy, Debug, Default, PartialEq, Eq)]
+pub struct ComparisonNumbers {
+    pub refusal: u8,
+    pub records: usize,
+    pub next_point: usize,
+    pub total: usize,
+}
+
 /// Numbers of the call that writes a form for a table.
 #[derive(Clone, Copy, Debug, Default, PartialEq, Eq)]
 pub struct FormNumbers {
@@ -98,11 +109,11 @@ pub struct ReportNumbers {
     pub length: usize,
 }
 
-/// A short list of the given numbers, at most twelve.
+/// A short list of the given numbers, at most as many as variables.
 pub fn short_list(numbers: &[u16]) -> ShortList {
     let mut list = ShortList {
         length: numbers.len(),
-        entries: [0; 12],
+        entries: [0; MOST_VARIABLES],
     };
     list.entries[..numbers.len()].copy_from_slice(numbers);
     list

@@ -1,5 +1,5 @@
 //! The refusal numbers, each under a name.
-//! Follows document 01, section "Refusal numbers".
+//! Follows document 01, section "Refusal numbers", and document 02, No. 1.
 
 /// Nothing is refused.
 pub const NONE: u8 = 0;
@@ -21,3 +21,7 @@ pub const SHORT_ROOM: u8 = 7;
 pub const BAD_BYTES: u8 = 8;
 /// A listing place above the number of candidates.
 pub const PLACE_TOO_LARGE: u8 = 9;
+/// Two tables have different numbers of variables.
+pub const COUNTS_DIFFER: u8 = 10;
+/// The first point of a comparison is above 2^n.
+pub const FIRST_POINT_TOO_LARGE: u8 = 11;

@@ -8,6 +8,9 @@ use crate::walk::{self, Fault, Faulty};
 /// Most variables that a table may have.
 pub const MOST_VARIABLES: usize = 12;
 
+/// Most points that a table may have.
+pub const MOST_POINTS: usize = 1 << MOST_VARIABLES;
+
 /// Most bytes that a stored table may have.
 pub const LONGEST_STORED: usize = 12_293;
 

@@ -3,12 +3,13 @@
 
 use reference::generate::{self, Generator};
 use reference::table::{self, read_stored, walk_stored, write_records, write_stored};
+use reference::table::{LONGEST_STORED, MOST_POINTS, MOST_VARIABLES};
 use reference::walk::Fault;
 
 /// Whether bytes are laid out as a table, by the shape as a whole: no walk.
 fn is_laid_out(bytes: &[u8]) -> bool {
     let length = bytes.len();
-    if !(5..=12_293).contains(&length) || !(length - 5).is_multiple_of(3) {
+    if !(5..=LONGEST_STORED).contains(&length) || !(length - 5).is_multiple_of(3) {
         return false;
     }
     let records = (length - 5) / 3;
@@ -29,7 +30,7 @@ fn expected_refusal(bytes: &[u8]) -> u8 {
     let points: Vec<usize> = bodies
         .map(|record| usize::from(record[1]) + 256 * usize::from(record[2]))
         .collect();
-    if bytes[1] == 0 || bytes[1] > 12 {
+    if bytes[1] == 0 || usize::from(bytes[1]) > MOST_VARIABLES {
         1
     } else if points.iter().any(|&point| point >= 1 << bytes[1]) {
         2
@@ -75,7 +76,7 @@ fn check_place(bytes: &[u8], fault: Fault, place: usize) {
         }
         Fault::Trailing => {
             let before = walk_stored(&bytes[..place]);
-            assert!(before.is_ok() || place == 12_293);
+            assert!(before.is_ok() || place == LONGEST_STORED);
         }
         _ => panic!("not a fault of a table: {fault:?}"),
     }
@@ -96,7 +97,7 @@ fn check_damages(bytes: &[u8]) {
 #[test]
 fn damaged_tables() {
     let mut generator = Generator::new(6);
-    for n in 1..=12 {
+    for n in 1..=MOST_VARIABLES {
         let (_, on, free) = generate::random_table(&mut generator, n.min(4), 40, 30);
         check_damages(&write_stored(n, &on, &free));
     }
@@ -123,7 +124,10 @@ fn random_records_and_random_bytes() {
 fn layout_comes_before_points() {
     assert_eq!(read_stored(&[]), Err(8));
     assert_eq!(read_stored(&[0x4E, 0, 0x45, 0, 0]), Err(1));
-    assert_eq!(read_stored(&[0x4E, 13, 0x45, 0, 0]), Err(1));
+    assert_eq!(
+        read_stored(&write_records(MOST_VARIABLES as u8 + 1, &[])),
+        Err(1)
+    );
     assert_eq!(read_stored(&[0x4E, 0, 0x45, 1, 0]), Err(8));
     let on = |point| (0x4F, point);
     assert_eq!(read_stored(&write_records(2, &[on(4), on(4)])), Err(2));
@@ -132,17 +136,18 @@ fn layout_comes_before_points() {
         Err(2)
     );
     assert_eq!(read_stored(&write_records(2, &[on(1), (0x44, 1)])), Err(3));
+    let (most, end) = (MOST_VARIABLES as u8, MOST_POINTS as u16);
     assert_eq!(
-        read_stored(&write_records(12, &[on(4095)])),
-        Ok((12, vec![4095], vec![]))
+        read_stored(&write_records(most, &[on(end - 1)])),
+        Ok((MOST_VARIABLES, vec![end - 1], vec![]))
     );
-    assert_eq!(read_stored(&write_records(12, &[on(4096)])), Err(2));
+    assert_eq!(read_stored(&write_records(most, &[on(end)])), Err(2));
     assert_eq!(
         read_stored(&[0x4E, 2, 0x4F, 1, 0, 0x45, 1, 1]),
         Err(8),
         "count 257"
     );
-    let many: Vec<(u8, u16)> = (0..4096).map(on).collect();
+    let many: Vec<(u8, u16)> = (0..end).map(on).collect();
     assert_eq!(read_stored(&write_records(3, &many)), Err(2));
 }
 
@@ -165,33 +170,38 @@ fn places_of_faults() {
 
 #[test]
 fn the_longest_table() {
-    let all: Vec<u16> = (0..4096).collect();
-    let mut bytes = write_stored(12, &all, &[]);
-    assert_eq!(bytes.len(), table::LONGEST_STORED);
-    assert_eq!(read_stored(&bytes), Ok((12, all.clone(), vec![])));
+    let all: Vec<u16> = (0..MOST_POINTS as u16).collect();
+    let mut bytes = write_stored(MOST_VARIABLES, &all, &[]);
+    let (length, end) = (LONGEST_STORED, LONGEST_STORED - 3);
+    assert_eq!(bytes.len(), length);
+    assert_eq!(
+        read_stored(&bytes),
+        Ok((MOST_VARIABLES, all.clone(), vec![]))
+    );
     for extra in 0..=255 {
         bytes.push(extra);
-        assert_eq!(walk_stored(&bytes), Err((Fault::Trailing, 12_293)));
+        assert_eq!(walk_stored(&bytes), Err((Fault::Trailing, length)));
         bytes.pop();
     }
-    let records: Vec<(u8, u16)> = (0..4097).map(|point| (0x4F, point)).collect();
-    let mut more = write_records(12, &records);
-    assert_eq!(walk_stored(&more), Err((Fault::Trailing, 12_293)));
-    more.truncate(12_293);
-    assert_eq!(walk_stored(&more), Err((Fault::Missing, 12_293)));
+    let points = 0..=MOST_POINTS as u16;
+    let records: Vec<(u8, u16)> = points.map(|point| (0x4F, point)).collect();
+    let mut more = write_records(MOST_VARIABLES as u8, &records);
+    assert_eq!(walk_stored(&more), Err((Fault::Trailing, length)));
+    more.truncate(length);
+    assert_eq!(walk_stored(&more), Err((Fault::Missing, length)));
     more.extend([0; 9]);
-    assert_eq!(walk_stored(&more), Err((Fault::Trailing, 12_293)));
-    more[12_290] = 0;
-    assert_eq!(walk_stored(&more), Err((Fault::Kind, 12_290)));
+    assert_eq!(walk_stored(&more), Err((Fault::Trailing, length)));
+    more[end] = 0;
+    assert_eq!(walk_stored(&more), Err((Fault::Kind, end)));
     bytes.push(0);
-    bytes[12_291] = 1;
-    assert_eq!(walk_stored(&bytes), Err((Fault::Count, 12_291)));
+    bytes[end + 1] = 1;
+    assert_eq!(walk_stored(&bytes), Err((Fault::Count, end + 1)));
 }
 
 #[test]
 fn lists_are_tested_for_each_number_in_turn() {
     assert_eq!(table::check(0, &[9], &[]), Err(1));
-    assert_eq!(table::check(13, &[], &[]), Err(1));
+    assert_eq!(table::check(MOST_VARIABLES + 1, &[], &[]), Err(1));
     assert_eq!(table::check(usize::MAX, &[], &[]), Err(1));
     assert_eq!(table::check(2, &[1, 1], &[4]), Err(2));
     assert_eq!(table::check(2, &[1], &[2, 1]), Err(3));

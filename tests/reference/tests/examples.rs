@@ -21,7 +21,7 @@ fn degree_and_form(n: usize, on: &[u16]) -> (usize, Vec<u8>) {
 
 /// Restriction of a table.
 fn restriction(n: usize, on: &[u16]) -> Vec<u16> {
-    let mut room = [0; 4096];
+    let mut room = [0; table::MOST_POINTS];
     let numbers = calls::analyse(n, on, &[], &mut room);
     assert_eq!(numbers.refusal, 0);
     room[..numbers.restriction_count].to_vec()

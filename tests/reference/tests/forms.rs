@@ -6,6 +6,7 @@ use reference::form::{self, Factor, Form};
 use reference::generate::{self, Generator};
 use reference::primes;
 use reference::space;
+use reference::table::MOST_VARIABLES;
 use reference::walk::Fault;
 use std::collections::BTreeSet;
 
@@ -52,7 +53,8 @@ fn places_of_faults() {
     assert_eq!(walk(&[0x4D, 4]), Err((Fault::Kind, 0)));
     assert_eq!(walk(&[0x4E]), Err((Fault::Missing, 1)));
     assert_eq!(walk(&[0x4E, 0]), Err((Fault::Variables, 1)));
-    assert_eq!(walk(&[0x4E, 13]), Err((Fault::Variables, 1)));
+    let above = MOST_VARIABLES as u8 + 1;
+    assert_eq!(walk(&[0x4E, above]), Err((Fault::Variables, 1)));
     assert_eq!(walk(&[0x4E, 4, 0x58, 1, 1, 0]), Err((Fault::Kind, 2)));
     assert_eq!(walk(&[0x4E, 4, 0x4F, 1, 0]), Err((Fault::Kind, 2)));
     assert_eq!(walk(&[0x4E, 4, 0x50, 0x58, 2]), Err((Fault::Missing, 5)));
@@ -87,7 +89,7 @@ fn is_right(form: &Form) -> bool {
     let in_range = |factor: &Factor| {
         factor.constant <= 1 && (1..1u32 << form.variables).contains(&factor.mask.into())
     };
-    (1..=12).contains(&form.variables)
+    (1..=MOST_VARIABLES).contains(&form.variables)
         && products.len() <= 64
         && products
             .iter()
@@ -113,7 +115,7 @@ fn check_bytes(bytes: &[u8]) {
 #[test]
 fn reading_and_writing_random_and_damaged_forms() {
     let mut generator = Generator::new(8);
-    for n in 1..=12 {
+    for n in 1..=MOST_VARIABLES {
         for products in [0, 1, 2, 5] {
             let form = generate::random_form(&mut generator, n, products);
             assert!(is_right(&form));

@@ -4,6 +4,7 @@ use reference::calls;
 use reference::generate::{self, Generator};
 use reference::numbers::ListingNumbers;
 use reference::primes::{self, Pseudocube};
+use reference::table::MOST_VARIABLES;
 use std::collections::BTreeSet;
 
 #[test]
@@ -189,7 +190,7 @@ fn refusals_of_a_listing_in_order() {
         answer.refusal
     };
     assert_eq!(refusal(0, &[], &[], 99_999), 1);
-    assert_eq!(refusal(13, &[9000], &[], 99_999), 1);
+    assert_eq!(refusal(MOST_VARIABLES + 1, &[9000], &[], 99_999), 1);
     assert_eq!(refusal(7, &[128], &[], 99_999), 2);
     assert_eq!(refusal(7, &[1, 1], &[128], 99_999), 2);
     assert_eq!(refusal(7, &[1, 1], &[1], 99_999), 3);

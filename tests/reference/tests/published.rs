@@ -3,7 +3,7 @@
 
 use reference::generate;
 use reference::space;
-use reference::table::Table;
+use reference::table::{Table, MOST_VARIABLES};
 
 /// The degree of a complete function.
 fn degree((n, on, _): &Table) -> usize {
@@ -41,7 +41,7 @@ fn nine_variable_functions() {
 
 #[test]
 fn parity_has_degree_one_below_n() {
-    for n in 1..=12 {
+    for n in 1..=MOST_VARIABLES {
         assert_eq!(degree(&generate::weight_bit(n, 0)), n - 1);
         assert_eq!(degree(&(n, vec![], vec![])), n);
         assert_eq!(degree(&generate::threshold(n, 0)), n);

@@ -41,7 +41,8 @@ fn variables_stand_in_index_order() {
 fn a_refused_table_prints_its_number_alone() {
     let on = |point| (0x4F, point);
     assert_eq!(text_of(&[]), "refused 8\n");
-    assert_eq!(text_of(&[0x4E, 13, 0x45, 0, 0]), "refused 1\n");
+    let wide = table::write_records(table::MOST_VARIABLES as u8 + 1, &[]);
+    assert_eq!(text_of(&wide), "refused 1\n");
     let large = table::write_records(2, &[on(1), on(1), on(4)]);
     assert_eq!(text_of(&large), "refused 2\n");
     let both = table::write_records(2, &[on(1), (0x44, 1)]);

@@ -8,7 +8,7 @@ use reference::generate::{self, Generator};
 use reference::numbers::*;
 use reference::report;
 use reference::space;
-use reference::table;
+use reference::table::{self, MOST_POINTS, MOST_VARIABLES};
 
 const FILL: u16 = 0xA5A5;
 
@@ -71,7 +71,7 @@ fn rooms_of_tables_and_spaces() {
 #[test]
 fn rooms_of_forms() {
     let mut generator = Generator::new(11);
-    for n in 1..=12usize {
+    for n in 1..=MOST_VARIABLES {
         let kept = n.min(6);
         let (_, on, _) = generate::closed_table(&mut generator, n, n - kept, 50);
         let form = form::write_form(n, &on, &[]).expect("a form");
@@ -132,17 +132,18 @@ fn list_refusals(n: usize, on: &[u16], free: &[u16]) -> [u8; 3] {
 #[test]
 fn refusals_of_calls_on_lists() {
     assert_eq!(list_refusals(0, &[1], &[1]), [1, 1, 1]);
-    assert_eq!(list_refusals(13, &[1], &[1]), [1, 1, 1]);
-    assert_eq!(list_refusals(12, &[4096], &[]), [2, 2, 2]);
+    let (most, end) = (MOST_VARIABLES, MOST_POINTS as u16);
+    assert_eq!(list_refusals(most + 1, &[1], &[1]), [1, 1, 1]);
+    assert_eq!(list_refusals(most, &[end], &[]), [2, 2, 2]);
     assert_eq!(list_refusals(2, &[1, 1], &[4]), [2, 2, 2]);
     assert_eq!(list_refusals(2, &[1, 1], &[1]), [3, 3, 3]);
     assert_eq!(list_refusals(2, &[1], &[1]), [4, 4, 4]);
-    assert_eq!(list_refusals(12, &[0], &[]), [7, 7, 5]);
-    let space = calls::linear_space(12, &[4096]);
+    assert_eq!(list_refusals(most, &[0], &[]), [7, 7, 5]);
+    let space = calls::linear_space(most, &[end]);
     assert_eq!((space.refusal, space.degree), (2, 0));
-    assert_eq!(calls::linear_space(13, &[]).refusal, 1);
-    assert_eq!(calls::linear_space(12, &[1, 1]).refusal, 3);
-    assert_eq!(calls::linear_space(12, &[4095]).refusal, 0);
+    assert_eq!(calls::linear_space(most + 1, &[]).refusal, 1);
+    assert_eq!(calls::linear_space(most, &[1, 1]).refusal, 3);
+    assert_eq!(calls::linear_space(most, &[end - 1]).refusal, 0);
 }
 
 #[test]
@@ -158,7 +159,7 @@ fn refusals_of_the_affine_call() {
 #[test]
 fn restriction_of_six_and_of_seven_variables() {
     let mut generator = Generator::new(12);
-    for n in 7..=12 {
+    for n in 7..=MOST_VARIABLES {
         for kept in [6, 7] {
             let table = loop {
                 let table = generate::closed_table(&mut generator, n, n - kept, 40);
@@ -180,7 +181,7 @@ fn restriction_of_six_and_of_seven_variables() {
 fn rooms_of_reports_on_refused_tables() {
     for (bytes, text) in [
         (&[][..], "refused 8\n"),
-        (&[0x4E, 13, 0x45, 0, 0], "refused 1\n"),
+        (&[0x4E, MOST_VARIABLES as u8 + 1, 0x45, 0, 0], "refused 1\n"),
     ] {
         check_byte_room(text.as_bytes(), |room| calls::report(bytes, room).refusal);
         let short = calls::report(bytes, &mut [0; 9]);
@@ -195,9 +196,10 @@ fn rooms_of_reports_on_refused_tables() {
 
 #[test]
 fn faults_of_a_form_come_before_its_room() {
-    assert_eq!(calls::form_points(&[0x4E, 13], &mut []).refusal, 8);
+    let most = MOST_VARIABLES as u8;
+    assert_eq!(calls::form_points(&[0x4E, most + 1], &mut []).refusal, 8);
     assert_eq!(calls::form_rewrite(&[], &mut []).refusal, 8);
-    let everywhere = [0x4E, 12, 0x50, 0x45, 1, 0];
-    assert_eq!(calls::form_points(&everywhere, &mut [0; 4095]).refusal, 7);
-    assert_eq!(calls::form_points(&everywhere, &mut [0; 4096]).refusal, 0);
+    let everywhere = [0x4E, most, 0x50, 0x45, 1, 0];
+    let refusal = |length| calls::form_points(&everywhere, &mut vec![0; length]).refusal;
+    assert_eq!([MOST_POINTS - 1, MOST_POINTS].map(refusal), [7, 0]);
 }

@@ -6,6 +6,7 @@ use reference::form;
 use reference::generate::{self, Generator};
 use reference::primes;
 use reference::space;
+use reference::table::MOST_VARIABLES;
 use std::collections::BTreeSet;
 
 /// The points of the set whose number has these bits.
@@ -91,9 +92,9 @@ fn every_set_of_up_to_three_variables_has_its_affine_space() {
 }
 
 #[test]
-fn random_functions_of_up_to_twelve_variables() {
+fn random_functions_of_every_number_of_variables() {
     let mut generator = Generator::new(1);
-    for n in 1..=12 {
+    for n in 1..=MOST_VARIABLES {
         for dimension in 0..=n {
             let (_, on, _) = generate::closed_table(&mut generator, n, dimension, 40);
             check_function(n, &on);

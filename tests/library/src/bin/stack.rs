@@ -1,8 +1,9 @@
 //! How many bytes of stack each call uses, measured: the stack below a call is
 //! painted with a byte, and after the call the lowest changed byte is sought. The
 //! most over many inputs counts, with two different bytes of paint. The calls are
-//! those of document 01, section "What the library holds".
+//! those of document 01, section "What the library holds", and of document 02.
 
+use glospruma::{MAX_POINTS, MAX_VARIABLES, TABLE_LENGTH};
 use reference::generate::{self, Generator};
 use reference::table::{self, Table};
 use std::arch::asm;
@@ -64,8 +65,9 @@ fn used<T>(mut call: impl FnMut() -> T) -> usize {
 /// variables, and faulty ones.
 fn tables() -> Vec<Table> {
     let mut generator = Generator::new(1);
-    let mut tables = vec![(0, vec![], vec![]), (12, vec![4095], vec![])];
-    for n in 1..=12 {
+    let last = (MAX_POINTS - 1) as u16;
+    let mut tables = vec![(0, vec![], vec![]), (MAX_VARIABLES, vec![last], vec![])];
+    for n in 1..=MAX_VARIABLES {
         tables.push((n, vec![0, 0], vec![]));
         tables.push((n, vec![0], vec![0]));
         tables.push(generate::threshold(n, 0));
@@ -86,14 +88,14 @@ fn inputs(tables: &[Table]) -> Vec<Vec<u8>> {
     let mut inputs: Vec<Vec<u8>> = accepted
         .map(|(n, on, free)| table::write_stored(*n, on, free))
         .collect();
-    for n in 1..=12 {
+    for n in 1..=MAX_VARIABLES {
         for count in [0, 1, 64] {
             let form = generate::random_form(&mut generator, n, count);
             inputs.push(reference::form::encode(&form));
         }
     }
     inputs.push(vec![]);
-    inputs.push(vec![0x4E; 12_294]);
+    inputs.push(vec![0x4E; TABLE_LENGTH + 1]);
     inputs
 }
 
@@ -109,7 +111,7 @@ fn row<I>(name: &str, inputs: &[I], mut depth: impl FnMut(&I) -> usize) {
 
 /// The calls that take a table.
 fn table_rows(tables: &[Table]) {
-    let (mut points, mut bytes) = (vec![0; 4096], vec![0; 65_536]);
+    let (mut points, mut bytes) = (vec![0; MAX_POINTS], vec![0; 65_536]);
     row("linear_space", tables, |(n, on, _)| {
         used(|| library::linear_space(*n, on))
     });
@@ -132,10 +134,15 @@ fn table_rows(tables: &[Table]) {
 
 /// The calls that take bytes.
 fn byte_rows(inputs: &[Vec<u8>]) {
-    let (mut points, mut others) = (vec![0; 4096], vec![0; 4096]);
+    let (mut points, mut others) = (vec![0; MAX_POINTS], vec![0; MAX_POINTS]);
     let mut bytes = vec![0; 65_536];
     row("read_table", inputs, |input| {
         used(|| library::read_table(input, &mut points, &mut others))
+    });
+    // Beside the first input, which is a table, and beside itself.
+    row("compare", inputs, |input| {
+        let mut beside = |other: &[u8]| used(|| library::compare(input, other, 0, &mut bytes));
+        beside(&inputs[0]).max(beside(input))
     });
     row("form_points", inputs, |input| {
         used(|| library::form_points(input, &mut points))

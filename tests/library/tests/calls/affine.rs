@@ -6,6 +6,7 @@ use crate::lent_calls;
 use crate::lists;
 use crate::tables;
 use crate::tally::Tally;
+use glospruma::{MAX_POINTS, MAX_VARIABLES};
 use library::Affine;
 use reference::calls;
 use reference::numbers::{AffineNumbers, ShortList};
@@ -28,7 +29,7 @@ pub fn numbers(found: &Affine) -> AffineNumbers {
 /// Makes the call with room of each length and compares its numbers and the
 /// memory.
 fn compare(tally: &mut Tally, n: usize, on: &[u16]) {
-    let mut answer = vec![0; 4096];
+    let mut answer = vec![0; MAX_POINTS];
     let accepted = calls::affine(n, on, &mut answer);
     answer.truncate(accepted.projection_count);
     let lent_on = Lent::holding(on);
@@ -87,11 +88,11 @@ fn faulty_lists() {
 fn order_of_refusals() {
     let refusal = |n, on: &[u16]| lent_calls::affine(n, on, &mut []).refusal;
     assert_eq!(refusal(0, &[]), 1);
-    assert_eq!(refusal(13, &[]), 1);
+    assert_eq!(refusal(MAX_VARIABLES + 1, &[]), 1);
     assert_eq!(refusal(2, &[4, 4]), 2);
     assert_eq!(refusal(2, &[1, 1, 4]), 2);
     assert_eq!(refusal(2, &[1, 1]), 3);
     assert_eq!(refusal(2, &[]), 6);
-    assert_eq!(refusal(12, &[]), 6);
+    assert_eq!(refusal(MAX_VARIABLES, &[]), 6);
     assert_eq!(refusal(2, &[0]), 7);
 }

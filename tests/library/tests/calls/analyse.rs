@@ -6,6 +6,7 @@ use crate::lent_calls;
 use crate::lists;
 use crate::tables;
 use crate::tally::Tally;
+use glospruma::MAX_POINTS;
 use library::Analysis;
 use reference::calls;
 use reference::numbers::{AnalysisNumbers, ShortList};
@@ -37,7 +38,7 @@ pub fn numbers(found: &Analysis) -> AnalysisNumbers {
 /// Makes the call with room of each length and compares its numbers and the
 /// memory.
 fn compare(tally: &mut Tally, n: usize, on: &[u16], free: &[u16]) {
-    let mut answer = vec![0; 4096];
+    let mut answer = vec![0; MAX_POINTS];
     let accepted = calls::analyse(n, on, free, &mut answer);
     answer.truncate(accepted.restriction_count);
     let (lent_on, lent_free) = (Lent::holding(on), Lent::holding(free));

@@ -6,6 +6,7 @@ use crate::lent_calls;
 use crate::lists;
 use crate::tables;
 use crate::tally::{assert_counts, Tally};
+use glospruma::MAX_POINTS;
 use library::Completion;
 use reference::calls;
 use reference::numbers::CompletionNumbers;
@@ -26,7 +27,7 @@ pub fn numbers(found: &Completion) -> CompletionNumbers {
 /// Makes the call with room of each length and compares its numbers and the
 /// memory; hands back the expected numbers.
 fn compare(tally: &mut Tally, n: usize, on: &[u16], free: &[u16]) -> CompletionNumbers {
-    let mut answer = vec![0; 4096];
+    let mut answer = vec![0; MAX_POINTS];
     let accepted = calls::complete(n, on, free, &mut answer);
     answer.truncate(accepted.point_count);
     let (lent_on, lent_free) = (Lent::holding(on), Lent::holding(free));

@@ -1,8 +1,9 @@
 //! Stored tables and forms damaged at random, several times over, and the answers
 //! of all calls that read them compared with the reference. Longer runs: see
 //! `random_run`. Follows document 01, sections "The written form" and "Refusal
-//! numbers".
+//! numbers", and document 02, No. 1.
 
+use crate::compare;
 use crate::form_points;
 use crate::form_rewrite;
 use crate::forms;
@@ -12,6 +13,7 @@ use crate::read_table;
 use crate::report;
 use crate::stored;
 use crate::tables;
+use glospruma::{COMPARISON_ROOM, DIFFERENCE_LENGTH, MAX_POINTS, MAX_VARIABLES};
 use library::settings;
 use reference::calls;
 use reference::generate::Generator;
@@ -46,7 +48,7 @@ fn telling_byte(generator: &mut Generator) -> u8 {
     ];
     match generator.below(4) {
         0 => kinds[generator.below(kinds.len())],
-        1 => generator.below(14) as u8,
+        1 => generator.below(MAX_VARIABLES + 2) as u8,
         2 => 1 << generator.below(8),
         _ => generator.below(256) as u8,
     }
@@ -115,7 +117,7 @@ fn damaged(generator: &mut Generator, inputs: &[Vec<u8>]) -> Vec<u8> {
     if generator.chance(10) {
         let other = &inputs[generator.below(inputs.len())];
         bytes.truncate(generator.below(bytes.len() + 1));
-        bytes.extend(&other[generator.below(other.len())..]);
+        bytes.extend(&other[generator.below(other.len() + 1)..]);
     }
     for _ in 0..generator.below(5) {
         if !bytes.is_empty() {
@@ -129,6 +131,27 @@ fn damaged(generator: &mut Generator, inputs: &[Vec<u8>]) -> Vec<u8> {
     bytes
 }
 
+/// The bytes with some on points made free, and some free points made on.
+fn other_kinds(generator: &mut Generator, bytes: &[u8]) -> Vec<u8> {
+    let mut bytes = bytes.to_vec();
+    for kind in bytes.iter_mut().skip(2).step_by(3) {
+        if matches!(*kind, KIND_ON | KIND_FREE) && generator.chance(30) {
+            *kind ^= KIND_ON ^ KIND_FREE;
+        }
+    }
+    bytes
+}
+
+/// Bytes to be laid beside others, often a table where these are one: with other
+/// kinds of points, without points, or damaged further.
+fn beside(generator: &mut Generator, bytes: &[u8]) -> Vec<u8> {
+    match generator.below(3) {
+        0 => other_kinds(generator, bytes),
+        1 => stored::empty_beside(bytes),
+        _ => damaged(generator, &[bytes.to_vec()]),
+    }
+}
+
 /// The calls of a run.
 struct Readers {
     run: Run,
@@ -136,7 +159,7 @@ struct Readers {
 
 impl Readers {
     fn form_points(&mut self, bytes: &[u8]) {
-        let mut answer = vec![0; 4096];
+        let mut answer = vec![0; MAX_POINTS];
         let accepted = calls::form_points(bytes, &mut answer);
         let short = FormPointsNumbers {
             refusal: SHORT_ROOM,
@@ -183,14 +206,34 @@ impl Readers {
             .compare(&bytes, text.as_bytes(), (accepted, short), call);
     }
 
+    /// The bytes are on the left or on the right.
+    fn compare(&mut self, bytes: &[u8]) {
+        let generator = &mut self.run.generator;
+        let other = beside(generator, bytes);
+        let (left, right) = match generator.chance(50) {
+            true => (bytes, &other[..]),
+            false => (&other[..], bytes),
+        };
+        let first = match generator.below(4) {
+            0 => generator.below(70),
+            1 => 1 << generator.below(64),
+            _ => 0,
+        };
+        let mut room = vec![0; COMPARISON_ROOM];
+        let records = calls::compare(left, right, first, &mut room).records;
+        let length = self.run.room_length(DIFFERENCE_LENGTH * records);
+        compare::compare(&mut self.run.tally, (left, right), first, length);
+    }
+
     /// Every call that reads bytes. The reference lists all primes for a report,
     /// so that a table of many variables is reported only at times.
     fn all(&mut self, bytes: &[u8]) {
-        let (mut on, mut free) = (vec![0; 4096], vec![0; 4096]);
+        let (mut on, mut free) = (vec![0; MAX_POINTS], vec![0; MAX_POINTS]);
         let table = calls::read_table(bytes, &mut on, &mut free);
         let on_length = self.run.room_length(table.on_count);
         let free_length = self.run.room_length(table.free_count);
         read_table::compare(&mut self.run.tally, bytes, on_length, free_length);
+        self.compare(bytes);
         let lent = Lent::holding(bytes);
         self.form_points(lent.part());
         self.form_rewrite(lent.part());
@@ -212,5 +255,5 @@ fn at_random() {
         let bytes = damaged(&mut readers.run.generator, &inputs);
         readers.all(&bytes);
     }
-    readers.run.tally.finish(&[0, 1, 2, 3, 7, 8]);
+    readers.run.tally.finish(&[0, 1, 2, 3, 7, 8, 10, 11]);
 }

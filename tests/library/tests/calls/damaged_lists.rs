@@ -13,7 +13,7 @@ use crate::lists;
 use crate::random_run::{self, Run};
 use crate::tables;
 use crate::write_form;
-use glospruma::{MAX_LISTED, MAX_POINTS, RECORD_LENGTH, WRITTEN_ROOM};
+use glospruma::{MAX_LISTED, MAX_POINTS, MAX_VARIABLES, RECORD_LENGTH, WRITTEN_ROOM};
 use library::settings;
 use reference::calls;
 use reference::generate::{self, Generator};
@@ -34,8 +34,9 @@ fn whole_tables(seed: u64) -> Vec<Table> {
 
 /// A point that means something at many places, or any other.
 fn telling_point(generator: &mut Generator, n: usize) -> u16 {
-    let size = 1u16 << n.clamp(1, 12);
-    let bounds = [0, size - 1, size, size + 1, 4095, 4096, u16::MAX];
+    let size = 1u16 << n.clamp(1, MAX_VARIABLES);
+    let most = MAX_POINTS as u16;
+    let bounds = [0, size - 1, size, size + 1, most - 1, most, u16::MAX];
     match generator.below(4) {
         0 => bounds[generator.below(bounds.len())],
         1 => 1 << generator.below(16),
@@ -60,7 +61,7 @@ type Damage = fn(&mut Generator, usize, &mut Vec<u16>, usize);
 const DAMAGES: [Damage; 9] = [
     |generator, n, list, place| list[place] = telling_point(generator, n),
     |generator, _, list, place| list[place] ^= 1 << generator.below(16),
-    |generator, n, list, place| list[place] ^= 1 << generator.below(n.clamp(1, 12)),
+    |generator, n, list, place| list[place] ^= 1 << generator.below(n.clamp(1, MAX_VARIABLES)),
     |_, _, list, place| list[place] = list[place].wrapping_add(1),
     |_, _, list, place| list.insert(place, list[place]),
     remove_point,

@@ -4,6 +4,7 @@
 use crate::forms;
 use crate::lent_calls;
 use crate::stored;
+use glospruma::MAX_POINTS;
 use library::{Basis, Listed, ShortList};
 
 const P5_ON: [u16; 10] = [4, 5, 6, 7, 9, 10, 12, 13, 14, 15];
@@ -54,7 +55,7 @@ fn listed(next: u64, passed: u64, records: usize) -> Listed {
 
 /// Degree and restriction of a table without free points.
 fn degree_and_restriction(n: usize, on: &[u16]) -> (usize, Vec<u16>) {
-    let mut room = [0; 4096];
+    let mut room = [0; MAX_POINTS];
     let found = lent_calls::analyse(n, on, &[], &mut room);
     assert_eq!(found.refusal, 0);
     assert_eq!(lent_calls::linear_space(n, on).degree, found.degree);

@@ -7,6 +7,7 @@ use crate::lent_calls;
 use crate::stored;
 use crate::tables;
 use crate::tally::Tally;
+use glospruma::{MAX_POINTS, MAX_VARIABLES};
 use library::settings::taken;
 use library::FormPoints;
 use reference::calls;
@@ -26,7 +27,7 @@ pub fn numbers(found: &FormPoints) -> FormPointsNumbers {
 /// Makes the call with room of each length and compares its numbers and the
 /// memory; hands back the expected points, or none for a refused form.
 fn compare(tally: &mut Tally, bytes: &[u8]) -> Option<Vec<u16>> {
-    let mut answer = vec![0; 4096];
+    let mut answer = vec![0; MAX_POINTS];
     let accepted = calls::form_points(bytes, &mut answer);
     answer.truncate(accepted.point_count);
     let lent = Lent::holding(bytes);
@@ -128,7 +129,7 @@ fn random_bytes() {
 #[test]
 fn written_forms() {
     let mut tally = Tally::new("form points, written forms");
-    let mut room = vec![0; 4096];
+    let mut room = vec![0; MAX_POINTS];
     for ((n, on, free), bytes) in forms::written_forms() {
         let points = compare(&mut tally, &bytes);
         let completion = lent_calls::complete(n, &on, &free, &mut room);
@@ -149,19 +150,19 @@ fn faulty_forms() {
             refused,
             "{bytes:X?}"
         );
-        let mut room = [9; 4096];
+        let mut room = [9; MAX_POINTS];
         assert_eq!(
             lent_calls::form_points(bytes, &mut room),
             refused,
             "{bytes:X?}"
         );
-        assert_eq!(room, [9; 4096]);
+        assert_eq!(room, [9; MAX_POINTS]);
     }
 }
 
 /// The points of a form that is read.
 fn points(bytes: &[u8]) -> Vec<u16> {
-    let mut room = [0; 4096];
+    let mut room = [0; MAX_POINTS];
     let found = lent_calls::form_points(bytes, &mut room);
     assert_eq!((found.refusal, found.variables), (0, bytes[1].into()));
     room[..found.count].to_vec()
@@ -171,28 +172,31 @@ fn points(bytes: &[u8]) -> Vec<u16> {
 fn points_of_known_forms() {
     let eight_then_six = [0x4E, 4, 0x50, 0x58, 1, 8, 0, 0x58, 0, 6, 0, 0x45, 1, 0];
     assert_eq!(points(&eight_then_six), [8, 9, 14, 15]);
-    assert_eq!(points(&[0x4E, 12, 0x45, 0, 0]), []);
-    let everywhere: Vec<u16> = (0..4096).collect();
-    assert_eq!(points(&[0x4E, 12, 0x50, 0x45, 1, 0]), everywhere);
+    let n = MAX_VARIABLES as u8;
+    assert_eq!(points(&[0x4E, n, 0x45, 0, 0]), []);
+    let everywhere: Vec<u16> = (0..MAX_POINTS as u16).collect();
+    assert_eq!(points(&[0x4E, n, 0x50, 0x45, 1, 0]), everywhere);
     let odd = [0x4E, 12, 0x50, 0x58, 1, 255, 15, 0x45, 1, 0];
     let is_odd = |point: &u16| point.count_ones() % 2 == 1;
     assert_eq!(points(&odd), (0..4096).filter(is_odd).collect::<Vec<u16>>());
 }
 
-/// Twelve variables: one product of twelve factors is true at the last point
-/// alone; twelve products of one factor are true everywhere else.
+/// One product of as many factors as variables is true at the last point alone; as
+/// many products of one factor are true everywhere else.
 #[test]
 fn last_point_and_all_others() {
-    let (mut last, mut others) = (vec![0x4E, 12, 0x50], vec![0x4E, 12]);
-    for place in (0..12).rev() {
+    let n = MAX_VARIABLES as u8;
+    let (mut last, mut others) = (vec![0x4E, n, 0x50], vec![0x4E, n]);
+    for place in (0..n).rev() {
         let [low, high] = (1u16 << place).to_le_bytes();
         last.extend([0x58, 1, low, high]);
         others.extend([0x50, 0x58, 0, low, high]);
     }
     last.extend([0x45, 1, 0]);
-    others.extend([0x45, 12, 0]);
-    assert_eq!(points(&last), [4095]);
-    assert_eq!(points(&others), (0..4095).collect::<Vec<u16>>());
+    others.extend([0x45, n, 0]);
+    let end = (MAX_POINTS - 1) as u16;
+    assert_eq!(points(&last), [end]);
+    assert_eq!(points(&others), (0..end).collect::<Vec<u16>>());
     let refusal = |length| lent_calls::form_points(&others, &mut vec![0; length]).refusal;
-    assert_eq!([4094, 4095].map(refusal), [7, 0]);
+    assert_eq!([MAX_POINTS - 2, MAX_POINTS - 1].map(refusal), [7, 0]);
 }

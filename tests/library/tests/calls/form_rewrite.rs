@@ -7,6 +7,7 @@ use crate::lent_calls;
 use crate::stored;
 use crate::tables;
 use crate::tally::Tally;
+use glospruma::MAX_VARIABLES;
 use library::settings::taken;
 use library::FormRewrite;
 use reference::calls;
@@ -64,7 +65,7 @@ fn bounds() {
             longest = longest.max(bytes.len());
         }
     }
-    assert_eq!(longest, 2 + 64 * (1 + 12 * 4) + 3);
+    assert_eq!(longest, 2 + 64 * (1 + MAX_VARIABLES * 4) + 3);
     tally.finish(&[0, 7, 8]);
 }
 

@@ -3,8 +3,9 @@
 //! is made that the environment asks for.
 
 use crate::lent_calls;
-use crate::stored;
+use crate::stored::{self, ABOVE};
 use crate::tables;
+use glospruma::{MAX_POINTS, MAX_VARIABLES};
 use library::settings::some;
 use reference::form::{self, Factor, Form, Product, MOST_PRODUCTS};
 use reference::generate::{self, Generator};
@@ -84,10 +85,10 @@ const MAKERS: [Maker; 5] = [
 /// Rounds of random forms for each number of variables and each maker.
 const ROUNDS: usize = 64;
 
-/// Random forms of 1 to 12 variables: 3,840 of them.
+/// Random forms, 320 for each number of variables.
 pub fn random_forms(seed: u64) -> impl Iterator<Item = Vec<u8>> {
     let mut generator = Generator::new(seed);
-    let widths = (0..ROUNDS).flat_map(|_| 1..=12);
+    let widths = (0..ROUNDS).flat_map(|_| 1..=MAX_VARIABLES);
     let kinds = widths.flat_map(|n| MAKERS.map(|maker| (n, maker)));
     some(kinds).map(move |(n, maker)| bytes_of(n, maker(&mut generator, n)))
 }
@@ -103,7 +104,7 @@ pub fn bounds() -> Vec<Vec<u8>> {
         all.push(bytes_of(n, vec![Vec::new()]));
     }
     let mut generator = Generator::new(2);
-    for n in 1..=12 {
+    for n in 1..=MAX_VARIABLES {
         for count in [63, 64, 65, 66, 128, 255, 256, 257, 320, 65_536, 65_600] {
             all.push(bytes_of(n, vec![Vec::new(); count]));
         }
@@ -175,7 +176,7 @@ const BREAKS: [Break; 11] = [
 /// Forms in which one product, first, last or between others, is broken.
 pub fn broken_forms(seed: u64) -> impl Iterator<Item = Vec<u8>> {
     let mut generator = Generator::new(seed);
-    let widths = (0..20).flat_map(|_| 2..=12);
+    let widths = (0..20).flat_map(|_| 2..=MAX_VARIABLES);
     let kinds = widths.flat_map(|n| BREAKS.map(|broken| (n, broken)));
     some(kinds).map(move |(n, broken)| {
         let mut product = Vec::new();
@@ -190,10 +191,11 @@ pub fn broken_forms(seed: u64) -> impl Iterator<Item = Vec<u8>> {
     })
 }
 
-/// Forms of 1 to 12 variables and of no product to three: 240 of them.
+/// Forms of no product to three, 20 for each number of variables.
 fn short_forms(seed: u64) -> Vec<Vec<u8>> {
     let mut generator = Generator::new(seed);
-    let kinds = (0..5).flat_map(|_| (1..=12).flat_map(|n| (0..=3).map(move |count| (n, count))));
+    let widths = (0..5).flat_map(|_| 1..=MAX_VARIABLES);
+    let kinds = widths.flat_map(|n| (0..=3).map(move |count| (n, count)));
     let forms = kinds.map(|(n, count)| generate::random_form(&mut generator, n, count));
     forms.map(|form| form::encode(&form)).collect()
 }
@@ -237,7 +239,7 @@ pub fn damaged_forms(seed: u64) -> impl Iterator<Item = Vec<u8>> {
 /// A few records after a first one: mostly products and factors in range, mostly
 /// with the right count and nothing after it.
 pub fn random_records(generator: &mut Generator) -> Vec<u8> {
-    let variables = generator.below(14);
+    let variables = generator.below(MAX_VARIABLES + 2);
     let mut bytes = vec![KIND_VARIABLES, variables as u8];
     let mut products = 0;
     for place in 0..generator.below(6) {
@@ -268,14 +270,15 @@ pub fn random_bytes(generator: &mut Generator) -> Vec<u8> {
     let length = generator.below(40);
     let mut bytes: Vec<u8> = (0..length).map(|_| generator.below(256) as u8).collect();
     if generator.chance(50) {
-        let start = [KIND_VARIABLES, generator.below(14) as u8, KIND_PRODUCT];
+        let variables = generator.below(MAX_VARIABLES + 2) as u8;
+        let start = [KIND_VARIABLES, variables, KIND_PRODUCT];
         bytes.splice(0..0, start);
     }
     bytes
 }
 
 /// Tables and the bytes of the forms written for them: every table of 1, 2 and 3
-/// variables, and those of up to 12 that keep at most six.
+/// variables, and wider ones that keep at most six.
 pub fn written_forms() -> impl Iterator<Item = (Table, Vec<u8>)> {
     let wider = tables::kept_tables(4, 2, 6);
     tables::small_tables().chain(wider).map(|table| {
@@ -293,7 +296,7 @@ pub fn points_read(n: usize, form: &[u8]) -> Vec<u16> {
     let found = lent_calls::form_rewrite(form, &mut room);
     assert_eq!((found.refusal, found.length), (0, form.len()));
     assert_eq!(room, [form, &[9]].concat());
-    let mut room = [0; 4096];
+    let mut room = [0; MAX_POINTS];
     let found = lent_calls::form_points(form, &mut room);
     assert_eq!((found.refusal, found.variables), (0, n));
     room[..found.count].to_vec()
@@ -306,7 +309,7 @@ pub const FAULTY: [&[u8]; 30] = [
     &[0x4E, 1],
     &[0x45, 0, 0],
     &[0x4E, 0, 0x45, 0, 0],
-    &[0x4E, 13, 0x45, 0, 0],
+    &[0x4E, ABOVE, 0x45, 0, 0],
     &[0x4E, 255, 0x45, 0, 0],
     &[0x4F, 1, 0x45, 0, 0],
     &[0x4E, 1, 0x45, 0],

@@ -3,7 +3,7 @@
 //! tables and bytes, good and faulty, and rooms of every kind. The other tests
 //! have one of the two for each slice. Numbers and rooms must be the same; the
 //! other tests compare them with the reference. Follows document 01, section
-//! "Refusal numbers".
+//! "Refusal numbers", and document 02, No. 1.
 
 use crate::forms;
 use crate::lent::{room_lengths, Entry, Guard, Lent};
@@ -12,7 +12,7 @@ use crate::lists;
 use crate::stored;
 use crate::tables;
 use crate::tally::assert_counts;
-use glospruma::{REPORT_ROOM, WRITTEN_ROOM};
+use glospruma::{COMPARISON_ROOM, DIFFERENCE_LENGTH, MAX_POINTS, REPORT_ROOM, WRITTEN_ROOM};
 use reference::generate::Generator;
 use reference::table::Table;
 use std::fmt::Debug;
@@ -73,7 +73,7 @@ fn table_calls((n, on, free): &Table) {
         library::linear_space(n, on(0)),
         library::linear_space(n, on(1))
     );
-    let (mut points, mut bytes) = ([0; 4096], [0; WRITTEN_ROOM]);
+    let (mut points, mut bytes) = ([0; MAX_POINTS], [0; WRITTEN_ROOM]);
     let count = lent_calls::complete(n, on(0), free(0), &mut points).count;
     in_rooms(count, |side, room| {
         library::complete(n, on(side), free(side), room)
@@ -97,11 +97,29 @@ fn table_calls((n, on, free): &Table) {
     }
 }
 
+/// The call that takes two stored tables: bytes beside a table without points, on
+/// either side, and beside themselves.
+fn comparing_calls(bytes: &[u8]) {
+    let empty = stored::empty_beside(bytes);
+    let lent = SIDES.map(|guard| [bytes, &empty].map(|list| Lent::holding_at(guard, list)));
+    let mut records = vec![0; COMPARISON_ROOM];
+    for (left, right) in [(0, 1), (1, 0), (0, 0)] {
+        let left = |side: usize| lent[side][left].part();
+        let right = |side: usize| lent[side][right].part();
+        for first in [0, 5, usize::MAX] {
+            let count = lent_calls::compare(left(0), right(0), first, &mut records).records;
+            in_rooms(DIFFERENCE_LENGTH * count, |side, room| {
+                library::compare(left(side), right(side), first, room)
+            });
+        }
+    }
+}
+
 /// Every call that takes bytes.
 fn byte_calls(bytes: &[u8]) {
     let lent = SIDES.map(|guard| Lent::holding_at(guard, bytes));
     let bytes = |side: usize| lent[side].part();
-    let (mut points, mut others) = ([0; 4096], [0; 4096]);
+    let (mut points, mut others) = ([0; MAX_POINTS], [0; MAX_POINTS]);
     let mut text = vec![0; REPORT_ROOM];
     let count = lent_calls::form_points(bytes(0), &mut points).count;
     in_rooms(count, |side, room| library::form_points(bytes(side), room));
@@ -119,6 +137,7 @@ fn byte_calls(bytes: &[u8]) {
             (found, contents_of(&free))
         });
     }
+    comparing_calls(bytes(0));
 }
 
 /// Good tables of every size and kind, and faulty lists: some hundred.

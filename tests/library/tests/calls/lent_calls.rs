@@ -1,10 +1,10 @@
 //! The calls for tests that have their lists and rooms in plain memory: each is
 //! made on a copy in lent memory, and what it left in a room is copied back.
-//! Follows document 01, section "Refusal numbers".
+//! Follows document 01, section "Refusal numbers", and document 02, No. 1.
 
 use crate::lent::{Entry, Lent};
-use library::{Affine, Analysis, Completion, FormPoints, FormRewrite, FormWritten};
-use library::{LinearSpace, Listed, Report, TableRead};
+use library::{Affine, Analysis, Comparison, Completion, FormPoints, FormRewrite};
+use library::{FormWritten, LinearSpace, Listed, Report, TableRead};
 
 /// Makes a call in a copy of a room; memory beside it must be as lent.
 fn in_copy<E: Entry, N>(room: &mut [E], call: impl FnOnce(&mut [E]) -> N) -> N {
@@ -20,6 +20,13 @@ pub fn read_table(bytes: &[u8], on: &mut [u16], free: &mut [u16]) -> TableRead {
     let bytes = Lent::holding(bytes);
     in_copy(on, |on| {
         in_copy(free, |free| library::read_table(bytes.part(), on, free))
+    })
+}
+
+pub fn compare(left: &[u8], right: &[u8], first: usize, room: &mut [u8]) -> Comparison {
+    let (left, right) = (Lent::holding(left), Lent::holding(right));
+    in_copy(room, |room| {
+        library::compare(left.part(), right.part(), first, room)
     })
 }
 

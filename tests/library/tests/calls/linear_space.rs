@@ -6,6 +6,7 @@ use crate::lent_calls;
 use crate::lists;
 use crate::tables;
 use crate::tally::Tally;
+use glospruma::MAX_VARIABLES;
 use library::settings::some;
 use library::LinearSpace;
 use reference::calls;
@@ -64,7 +65,7 @@ fn random_and_known_tables() {
 fn every_degree() {
     let mut tally = Tally::new("linear space, every degree");
     let mut generator = Generator::new(101);
-    let degrees = (1..=12).flat_map(|n| (0..=n).map(move |degree| (n, degree)));
+    let degrees = (1..=MAX_VARIABLES).flat_map(|n| (0..=n).map(move |degree| (n, degree)));
     for (n, degree) in some(degrees) {
         let mut tries = 0..1000;
         let found = tries.any(|_| {

@@ -6,6 +6,7 @@ use crate::lent_calls;
 use crate::lists;
 use crate::tables;
 use crate::tally::{assert_counts, Tally};
+use glospruma::{MAX_POINTS, MAX_VARIABLES};
 use library::settings::{is_whole, some};
 use library::Listed;
 use reference::calls;
@@ -240,8 +241,11 @@ fn spoilt(generator: &mut Generator, (n, on, free): (usize, &[u16], &[u16]), fau
     let on_list = generator.chance(50);
     let list = if on_list { &mut on } else { &mut free };
     match fault {
-        1 => return ([0, 13, 256 + n, usize::MAX][generator.below(4)], on, free),
-        2 => list.push([1 << n, 4096, 65_535][generator.below(3)]),
+        1 => {
+            let refused = [0, MAX_VARIABLES + 1, 256 + n, usize::MAX];
+            return (refused[generator.below(refused.len())], on, free);
+        }
+        2 => list.push([1 << n, MAX_POINTS as u16, 65_535][generator.below(3)]),
         3 => list.push(list.last().copied().unwrap_or(0)),
         _ => {}
     }
@@ -252,7 +256,7 @@ fn spoilt(generator: &mut Generator, (n, on, free): (usize, &[u16], &[u16]), fau
         on.extend(on.is_empty().then_some(0));
         free = vec![on[generator.below(on.len())]];
     }
-    let wider = 7 + generator.below(6);
+    let wider = 7 + generator.below(MAX_VARIABLES - 6);
     (if fault == 5 { wider } else { n }, on, free)
 }
 
@@ -491,7 +495,7 @@ fn faulty_lists() {
 fn order_of_refusals() {
     let cases: [lists::Case; 10] = [
         (0, &[], &[], 1),
-        (13, &[1], &[1], 1),
+        (MAX_VARIABLES + 1, &[1], &[1], 1),
         (7, &[128], &[], 2),
         (7, &[1, 1], &[128], 2),
         (7, &[1, 1], &[1], 3),

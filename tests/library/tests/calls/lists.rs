@@ -2,27 +2,37 @@
 //! ways at once, so that the order of the refusals matters. Follows document 01,
 //! section "Refusal numbers".
 
+use glospruma::{MAX_POINTS, MAX_VARIABLES};
 use library::settings::some;
 
+/// The last point of the widest table.
+const LAST: u16 = (MAX_POINTS - 1) as u16;
+
+/// The first point that no table has.
+const BEYOND: u16 = MAX_POINTS as u16;
+
+/// Points of a list that is longer than any table.
+const LONGER: usize = MAX_POINTS + MAX_POINTS / 4;
+
 /// Numbers of variables to try: all that are accepted, and refused ones, among
-/// them those that a narrower number would take for 12 or less.
+/// them those that a narrower number would take for an accepted one.
 pub fn variable_counts() -> Vec<usize> {
-    let accepted = 1..=12;
+    let accepted = 1..=MAX_VARIABLES;
     let refused = [
         0,
-        13,
-        14,
+        MAX_VARIABLES + 1,
+        MAX_VARIABLES + 2,
         16,
         63,
         64,
-        76,
+        64 + MAX_VARIABLES,
         128,
         255,
         256,
-        256 + 12,
-        65_536 + 12,
-        (1 << 32) + 12,
-        (1 << 63) + 12,
+        256 + MAX_VARIABLES,
+        65_536 + MAX_VARIABLES,
+        (1 << 32) + MAX_VARIABLES,
+        (1 << 63) + MAX_VARIABLES,
         usize::MAX,
     ];
     accepted.chain(refused).collect()
@@ -32,7 +42,7 @@ pub fn variable_counts() -> Vec<usize> {
 /// points; lists longer than any table. For a refused n they are those of
 /// another.
 fn lists_of(n: usize) -> Vec<Vec<u16>> {
-    let width = n.clamp(1, 12);
+    let width = n.clamp(1, MAX_VARIABLES);
     let size = 1u16 << width;
     let (last, middle) = (size - 1, size / 2);
     vec![
@@ -46,7 +56,7 @@ fn lists_of(n: usize) -> Vec<Vec<u16>> {
         vec![size],
         vec![0, size],
         vec![last, size + 1],
-        vec![4096],
+        vec![BEYOND],
         vec![0, 65_535],
         vec![65_535, 0],
         vec![size, size],
@@ -57,9 +67,9 @@ fn lists_of(n: usize) -> Vec<Vec<u16>> {
         vec![last, 0],
         vec![0, last, middle],
         (0..size).chain([last]).collect(),
-        (0..5000).collect(),
-        vec![0; 5000],
-        (0..size).cycle().take(8192).collect(),
+        (0..LONGER as u16).collect(),
+        vec![0; LONGER],
+        (0..size).cycle().take(2 * MAX_POINTS).collect(),
     ]
 }
 
@@ -89,11 +99,11 @@ pub type Case = (usize, &'static [u16], &'static [u16], u8);
 pub const ORDERED: [Case; 24] = [
     (0, &[], &[], 1),
     (0, &[1, 1], &[1], 1),
-    (13, &[65_535, 0], &[0], 1),
+    (MAX_VARIABLES + 1, &[65_535, 0], &[0], 1),
     (usize::MAX, &[0], &[0], 1),
-    (12, &[4096], &[], 2),
-    (12, &[], &[4096], 2),
-    (12, &[], &[65_535], 2),
+    (MAX_VARIABLES, &[BEYOND], &[], 2),
+    (MAX_VARIABLES, &[], &[BEYOND], 2),
+    (MAX_VARIABLES, &[], &[65_535], 2),
     (1, &[2], &[], 2),
     (2, &[4, 4], &[], 2),
     (2, &[1, 1], &[4], 2),
@@ -109,6 +119,6 @@ pub const ORDERED: [Case; 24] = [
     (2, &[1], &[1], 4),
     (2, &[0, 3], &[1, 3], 4),
     (2, &[0, 1], &[0, 2], 4),
-    (12, &[0, 4095], &[4095], 4),
-    (12, &[0], &[0], 4),
+    (MAX_VARIABLES, &[0, LAST], &[LAST], 4),
+    (MAX_VARIABLES, &[0], &[0], 4),
 ];

@@ -1,11 +1,11 @@
 //! Comparison of each call of the static library with the reference, one module
-//! to a call; `examples`, `published` and `vectors` compare with fixed answers
-//! instead. `damaged_bytes` and `damaged_lists` make all calls on inputs damaged at
-//! random, `guarded` makes every call on the same input twice, with guard pages on
-//! either side, `small_stack` makes them with little stack, and `safe` makes the
-//! safe calls of the Rust package. Follows document 01, sections "Points and
-//! spaces", "Primes", "The written form", "Refusal numbers", "The printed report"
-//! and "Table of proved examples".
+//! to a call; `cases`, `examples`, `published` and `vectors` compare with fixed
+//! answers instead. `damaged_bytes` and `damaged_lists` make all calls on inputs
+//! damaged at random, `guarded` makes every call on the same input twice, with
+//! guard pages on either side, `small_stack` makes them with little stack, and
+//! `safe` makes the safe calls of the Rust package. Follows document 01, sections
+//! "Points and spaces", "Primes", "The written form", "Refusal numbers", "The
+//! printed report" and "Table of proved examples", and document 02.
 //!
 //! Every list, every room and all bytes of every call stand in memory of `lent`,
 //! beside a page that may not be touched. A further call takes a module here with
@@ -13,6 +13,7 @@
 //! a line of `lent_calls`; its declaration stands in the package in the folder
 //! `rust`.
 
+mod case_files;
 mod forms;
 mod lent;
 mod lent_calls;
@@ -25,6 +26,7 @@ mod tally;
 
 mod affine;
 mod analyse;
+mod compare;
 mod complete;
 mod form_points;
 mod form_rewrite;
@@ -34,6 +36,7 @@ mod read_table;
 mod report;
 mod write_form;
 
+mod cases;
 mod damaged_bytes;
 mod damaged_lists;
 mod examples;

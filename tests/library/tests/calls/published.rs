@@ -2,13 +2,14 @@
 //! section "Points and spaces".
 
 use crate::lent_calls;
+use glospruma::MAX_POINTS;
 use reference::generate;
 use reference::table::Table;
 
 /// The degree of a complete function, on which three calls must agree.
 fn degree((n, on, _): &Table) -> usize {
     let space = lent_calls::linear_space(*n, on);
-    let mut room = vec![0; 4096];
+    let mut room = vec![0; MAX_POINTS];
     let completion = lent_calls::complete(*n, on, &[], &mut room);
     let analysis = lent_calls::analyse(*n, on, &[], &mut room);
     let refusals = (space.refusal, completion.refusal, analysis.refusal);

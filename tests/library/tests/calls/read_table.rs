@@ -3,9 +3,10 @@
 
 use crate::lent::{room_lengths, Lent};
 use crate::lent_calls;
-use crate::stored;
+use crate::stored::{self, ABOVE};
 use crate::tables;
 use crate::tally::Tally;
+use glospruma::{MAX_POINTS, MAX_VARIABLES};
 use library::settings::taken;
 use library::TableRead;
 use reference::calls;
@@ -43,7 +44,7 @@ pub fn compare(tally: &mut Tally, bytes: &[u8], on_length: usize, free_length: u
 
 /// Makes the call with every pair of the lengths of room to try.
 fn compare_rooms(tally: &mut Tally, bytes: &[u8]) {
-    let (mut on, mut free) = (vec![0; 4096], vec![0; 4096]);
+    let (mut on, mut free) = (vec![0; MAX_POINTS], vec![0; MAX_POINTS]);
     let expected = calls::read_table(bytes, &mut on, &mut free);
     for on_length in room_lengths(expected.on_count) {
         for free_length in room_lengths(expected.free_count) {
@@ -88,11 +89,11 @@ fn damaged_short_tables() {
 fn damaged_long_tables() {
     let mut tally = Tally::new("read table, damaged long tables");
     let mut generator = Generator::new(142);
-    for n in 7..=12 {
+    for n in 7..=MAX_VARIABLES {
         let table = generate::random_table(&mut generator, n, 60, 30);
         let bytes = stored::bytes_of(&table);
         for damaged in stored::some_damages(&mut generator, &bytes) {
-            compare(&mut tally, &damaged, 4096, 4096);
+            compare(&mut tally, &damaged, MAX_POINTS, MAX_POINTS);
         }
     }
     tally.finish(&[0, 1, 2, 3, 8]);
@@ -103,7 +104,7 @@ fn longest_tables() {
     let mut tally = Tally::new("read table, longest tables");
     for bytes in stored::longest() {
         compare_rooms(&mut tally, &bytes);
-        compare(&mut tally, &bytes, 5000, 70_000);
+        compare(&mut tally, &bytes, 2 * MAX_POINTS, 70_000);
     }
     tally.finish(&[0, 1, 2, 7, 8]);
 }
@@ -136,7 +137,7 @@ fn order_of_refusals() {
     assert_eq!(refusal(&[]), 8);
     assert_eq!(refusal(&[0x4E, 0, 0x45, 0, 0]), 1);
     assert_eq!(refusal(&[0x4E, 0, 0x45, 1, 0]), 8);
-    assert_eq!(refusal(&[0x4E, 13, 0x4F, 255, 255, 0x45, 1, 0]), 1);
+    assert_eq!(refusal(&[0x4E, ABOVE, 0x4F, 255, 255, 0x45, 1, 0]), 1);
     assert_eq!(refusal(&[0x4E, 2, 0x4F, 1, 0, 0x45, 1, 1]), 8);
     assert_eq!(refusal(&[0x4E, 2, 0x4F, 4, 0, 0x4F, 4, 0, 0x45, 2, 0]), 2);
     let late_large = [0x4E, 2, 0x4F, 1, 0, 0x4F, 1, 0, 0x44, 4, 0, 0x45, 3, 0];

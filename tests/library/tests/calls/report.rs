@@ -5,6 +5,7 @@ use crate::lent::{with_each_room, Lent};
 use crate::stored;
 use crate::tables;
 use crate::tally::{assert_found, Tally};
+use glospruma::{MAX_POINTS, MAX_VARIABLES};
 use library::settings::{is_whole, taken};
 use library::Report;
 use reference::generate::{self, Generator};
@@ -121,7 +122,7 @@ fn damaged_short_tables() {
 #[test]
 fn damaged_long_tables() {
     let mut generator = Generator::new(184);
-    let inputs = (7..=12).flat_map(|n| {
+    let inputs = (7..=MAX_VARIABLES).flat_map(|n| {
         let table = generate::closed_table(&mut generator, n, n - 6, 50);
         let bytes = stored::bytes_of(&table);
         let damaged = stored::some_damages(&mut generator, &bytes);
@@ -151,20 +152,18 @@ fn random_records() {
     compare_all("report, random records", inputs, &[1, 2, 3, 5, 8]);
 }
 
-/// The longest texts are those of 12 variables without a form; the line of the
-/// restriction then has up to 4,095 points.
+/// The longest texts are those of the most variables without a form; the line of
+/// the restriction then has all points but one.
 #[test]
 fn longest_texts() {
     let mut tally = Tally::new("report, longest texts");
     let mut longest = 0;
-    for off in [0, 1, 2048, 4095] {
-        let table = generate::table_of(12, |point| point != off);
+    let last = (MAX_POINTS - 1) as u16;
+    for off in [0, 1, last / 2 + 1, last] {
+        let table = generate::table_of(MAX_VARIABLES, |point| point != off);
         let text = compare(&mut tally, &stored::bytes_of(&table));
-        assert!(text.ends_with(if off == 4095 {
-            " 4094\nrefused 5\n"
-        } else {
-            " 4095\nrefused 5\n"
-        }));
+        let last_on = if off == last { last - 1 } else { last };
+        assert!(text.ends_with(&format!(" {last_on}\nrefused 5\n")));
         longest = longest.max(text.len());
     }
     println!("longest text: {longest} bytes");

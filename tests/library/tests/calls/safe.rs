@@ -1,15 +1,19 @@
 //! The safe calls of the Rust package compared with its raw ones, which the other
 //! tests compare with the reference: an answer has the same numbers and the front
 //! of the room, and a refusal its number. Follows document 01, section "Refusal
-//! numbers".
+//! numbers", and document 02, No. 1.
 
+use crate::compare::stored_pairs;
 use crate::guarded::{some_bytes, some_tables};
 use crate::lent::{Entry, Lent};
 use crate::lent_calls;
-use glospruma::{Refusal, RECORD_LENGTH};
-use library::{Affine, Analysis, Completion, FormPoints, FormRewrite, FormWritten};
-use library::{LinearSpace, Listed, Report, TableRead};
-use reference::table::Table;
+use crate::stored;
+use glospruma::{Difference, Refusal, COMPARISON_ROOM, DIFFERENCE_LENGTH, RECORD_LENGTH};
+use glospruma::{MAX_LISTED, MAX_POINTS, MAX_VARIABLES, TABLE_LENGTH};
+use library::{Affine, Analysis, Comparison, Completion, FormPoints, FormRewrite};
+use library::{FormWritten, LinearSpace, Listed, Report, TableRead};
+use reference::calls;
+use reference::table::{Table, LONGEST_STORED, MOST_POINTS, MOST_VARIABLES};
 use std::fmt::Debug;
 
 /// Lengths of rooms for points, and for bytes, long enough or not.
@@ -157,6 +161,54 @@ fn stored_table(bytes: &[u8], length: usize) {
     other_free.assert_front(&free);
 }
 
+/// The record that a difference was made from.
+fn record_of(difference: Difference) -> [u8; DIFFERENCE_LENGTH] {
+    let [low, high] = difference.point.to_le_bytes();
+    [low, high, difference.left.into(), difference.right.into()]
+}
+
+fn comparison(left: &[u8], right: &[u8], length: usize) {
+    let (mut room, mut other) = equal_rooms(length);
+    let (left, right) = (Lent::holding(left), Lent::holding(right));
+    let (left, right) = (left.part(), right.part());
+    for first in [0, 3, usize::MAX] {
+        let raw = lent_calls::compare(left, right, first, &mut room);
+        let compared = |found: glospruma::Comparison| {
+            let records: Vec<u8> = found.differences().flat_map(record_of).collect();
+            assert_eq!(records, found.records);
+            assert_eq!(records, room[..DIFFERENCE_LENGTH * raw.records]);
+            Comparison {
+                refusal: 0,
+                records: found.differences().len(),
+                next: found.next,
+                total: found.total,
+            }
+        };
+        let safe = glospruma::compare(left, right, first, other.part_mut());
+        compare(raw, safe, compared, refused!(Comparison));
+    }
+    other.assert_front(&room);
+}
+
+/// All differences, with no room to lend, compared with the reference.
+fn differences(left: &[u8], right: &[u8]) {
+    let mut room = vec![0; COMPARISON_ROOM];
+    let expected = calls::compare(left, right, 0, &mut room);
+    let (left, right) = (Lent::holding(left), Lent::holding(right));
+    match glospruma::differences(left.part(), right.part()) {
+        Ok(found) => {
+            assert_eq!(
+                (found.total(), found.len()),
+                (expected.total, expected.total)
+            );
+            let records: Vec<u8> = found.flat_map(record_of).collect();
+            assert_eq!(records, room[..DIFFERENCE_LENGTH * expected.total]);
+            assert_eq!(expected.refusal, 0);
+        }
+        Err(refusal) => assert_eq!(u8::from(refusal), expected.refusal),
+    }
+}
+
 fn form_and_report(bytes: &[u8], length: usize) {
     let lent = Lent::holding(bytes);
     let bytes = lent.part();
@@ -215,4 +267,30 @@ fn bytes() {
             form_and_report(&bytes, length);
         }
     }
+}
+
+/// Bytes beside a table without points, and pairs of tables.
+#[test]
+fn pairs() {
+    let beside_empty = some_bytes().map(|bytes| {
+        let empty = stored::empty_beside(&bytes);
+        (bytes, empty)
+    });
+    for (left, right) in beside_empty.chain(stored_pairs(230).step_by(19)) {
+        for length in ROOMS {
+            comparison(&left, &right, length);
+        }
+        differences(&left, &right);
+    }
+}
+
+/// The package's numbers, which these tests go by, are the reference's own.
+#[test]
+fn numbers_of_the_reference() {
+    assert_eq!(MAX_VARIABLES, MOST_VARIABLES);
+    assert_eq!(MAX_POINTS, MOST_POINTS);
+    assert_eq!(TABLE_LENGTH, LONGEST_STORED);
+    assert_eq!(MAX_LISTED, reference::primes::MOST_LISTED);
+    assert_eq!(RECORD_LENGTH, reference::primes::RECORD_LENGTH);
+    assert_eq!(DIFFERENCE_LENGTH, reference::compare::DIFFERENCE_LENGTH);
 }

@@ -1,11 +1,11 @@
 //! Every call in a thread with as little stack as include/glospruma.h asks for;
 //! one that used more would touch the thread's guard page and stop the test. The
 //! program `stack` prints what each call uses. Follows document 01, section "What
-//! the library holds".
+//! the library holds", and document 02, No. 1.
 
 use crate::lent_calls;
 use crate::stored;
-use glospruma::{MAX_POINTS, REPORT_ROOM, WRITTEN_ROOM};
+use glospruma::{MAX_POINTS, MAX_VARIABLES, REPORT_ROOM, WRITTEN_ROOM};
 use reference::generate::{self, Generator};
 use reference::table::Table;
 use std::thread;
@@ -20,6 +20,9 @@ fn make_calls((n, on, free): &Table) {
     let (mut form, mut text) = (vec![0; WRITTEN_ROOM], vec![0; REPORT_ROOM]);
     let read = lent_calls::read_table(&bytes, &mut points, &mut others);
     assert_eq!((read.refusal, read.variables), (0, n));
+    let empty = stored::bytes_of(&(n, vec![], vec![]));
+    let compared = lent_calls::compare(&bytes, &empty, 0, &mut text);
+    assert_eq!((compared.refusal, compared.next), (0, 1 << n));
     assert_eq!(lent_calls::linear_space(n, on).refusal, 0);
     assert_eq!(lent_calls::affine(n, on, &mut points).refusal, 0);
     assert_eq!(lent_calls::analyse(n, on, free, &mut points).refusal, 0);
@@ -39,7 +42,7 @@ fn make_calls((n, on, free): &Table) {
 fn every_call() {
     let mut generator = Generator::new(200);
     let mut tables = vec![];
-    for n in 1..=12 {
+    for n in 1..=MAX_VARIABLES {
         let function = generate::closed_table(&mut generator, n, n - n.min(6), 60);
         tables.push(generate::with_free_points(&mut generator, &function, 5));
         tables.push(function);

@@ -2,21 +2,31 @@
 //! section "The written form". Of each list the share is made that the environment
 //! asks for.
 
+use glospruma::{MAX_POINTS, MAX_VARIABLES, TABLE_LENGTH};
 use library::settings::some;
 use reference::generate::{self, Generator};
 use reference::table::{self, Table};
-use reference::walk::{KIND_FREE, KIND_ON};
+use reference::walk::{KIND_END, KIND_FREE, KIND_ON};
+
+/// The least number of variables above all that are accepted.
+pub const ABOVE: u8 = MAX_VARIABLES as u8 + 1;
 
 /// The stored bytes of a table.
 pub fn bytes_of((n, on, free): &Table) -> Vec<u8> {
     table::write_stored(*n, on, free)
 }
 
-/// A short stored table for each n that the byte can hold up to 14, refused ones
-/// too.
+/// A stored table without points, of as many variables as some bytes say, whether
+/// these are a stored table or not.
+pub fn empty_beside(bytes: &[u8]) -> Vec<u8> {
+    let variables = bytes.get(1).copied().unwrap_or(1);
+    table::write_records(variables, &[])
+}
+
+/// A short stored table for each n from 0 to two more than is accepted.
 pub fn short_tables(generator: &mut Generator) -> Vec<Vec<u8>> {
     let mut all = Vec::new();
-    for n in 0..=14 {
+    for n in 0..=MAX_VARIABLES + 2 {
         let width = n.clamp(1, 4);
         let (_, on, free) = generate::random_table(generator, width, 40, 30);
         all.push(table::write_stored(n, &on, &free));
@@ -58,21 +68,27 @@ fn many_records(n: u8, count: u16) -> Vec<u8> {
     table::write_records(n, &records)
 }
 
-/// Inputs about the longest table: full ones, 4,097 records with and without the
+/// Numbers of variables about the largest one.
+const ABOUT_LARGEST: [u8; 3] = [ABOVE - 2, ABOVE - 1, ABOVE];
+
+/// Inputs about the longest table: full ones, a record more with and without the
 /// end, and longer ones, for numbers of variables good and refused.
 pub fn longest() -> Vec<Vec<u8>> {
+    let most = MAX_POINTS as u16;
+    let counts = [most - 1, most, most + 1, most + 2, 2 * most, 65_535];
     let mut all = Vec::new();
-    for n in [0, 3, 11, 12, 13, 255] {
-        all.extend([4095, 4096, 4097, 4098, 8192, 65_535].map(|count| many_records(n, count)));
-        let full = many_records(n, 4096);
+    for n in [0, 3].into_iter().chain(ABOUT_LARGEST).chain([255]) {
+        all.extend(counts.map(|count| many_records(n, count)));
+        let full = many_records(n, most);
         all.push([&full[..], &[0]].concat());
         all.push([&full[..], &full].concat());
-        let without_end = &many_records(n, 4097)[..12_293];
+        let without_end = &many_records(n, most + 1)[..TABLE_LENGTH];
         all.push(without_end.to_vec());
-        all.push([&full[..12_290], &[0x45, 0, 0, 0x45, 0, 16]].concat());
+        let (records, end) = full.split_at(TABLE_LENGTH - 3);
+        all.push([records, &[KIND_END, 0, 0], end].concat());
     }
-    all.push(vec![0; 12_293]);
-    all.push(vec![0x4E; 12_294]);
+    all.push(vec![0; TABLE_LENGTH]);
+    all.push(vec![0x4E; TABLE_LENGTH + 1]);
     all.push(vec![0x45; 100_000]);
     some(all).collect()
 }
@@ -82,7 +98,7 @@ pub fn longest() -> Vec<Vec<u8>> {
 pub fn faulty_points() -> Vec<Vec<u8>> {
     let points: [&[u16]; 12] = [
         &[4],
-        &[4096],
+        &[MAX_POINTS as u16],
         &[65_535],
         &[0, 4, 4],
         &[1, 1, 4],
@@ -95,7 +111,7 @@ pub fn faulty_points() -> Vec<Vec<u8>> {
         &[256, 1],
     ];
     let mut all = Vec::new();
-    for n in [0, 1, 2, 8, 9, 11, 12, 13] {
+    for n in [0, 1, 2, 8, 9].into_iter().chain(ABOUT_LARGEST) {
         for list in points {
             for kinds in 0..1u32 << list.len() {
                 let kind = |place: usize| [KIND_ON, KIND_FREE][(kinds >> place & 1) as usize];
@@ -113,7 +129,7 @@ pub fn faulty_points() -> Vec<Vec<u8>> {
 /// A few records after a first one: mostly of the right kinds, mostly with
 /// rising points below 2^n, mostly with the right count and nothing after it.
 pub fn random_records(generator: &mut Generator) -> Vec<u8> {
-    let variables = generator.below(14) as u8;
+    let variables = generator.below(MAX_VARIABLES + 2) as u8;
     let wide = generator.chance(10);
     let mut point = generator.below(3) as u16;
     let mut records = Vec::new();

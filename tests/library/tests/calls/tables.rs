@@ -3,6 +3,7 @@
 //! spaces". The same seed gives the same tables; of each list the share is made
 //! that the environment asks for.
 
+use glospruma::MAX_VARIABLES;
 use library::settings::{some, taken};
 use reference::generate::{self, Generator};
 use reference::space;
@@ -151,9 +152,9 @@ const MAKERS: [Maker; 8] = [
 /// Rounds of random tables for each number of variables and each maker.
 const ROUNDS: usize = 32;
 
-/// Random tables of 1 to 12 variables: 3,072 of them.
+/// Random tables of every number of variables.
 pub fn random_tables(seed: u64) -> impl Iterator<Item = Table> {
-    random_tables_of(1..=12, seed)
+    random_tables_of(1..=MAX_VARIABLES, seed)
 }
 
 /// Random tables of some numbers of variables, 256 for each.
@@ -183,9 +184,9 @@ fn symmetric_tables(n: usize) -> Vec<Table> {
     tables
 }
 
-/// Known functions of up to 12 variables.
+/// Known functions, most of them of every number of variables.
 fn known_functions() -> Vec<Table> {
-    let mut tables: Vec<Table> = (1..=12).flat_map(symmetric_tables).collect();
+    let mut tables: Vec<Table> = (1..=MAX_VARIABLES).flat_map(symmetric_tables).collect();
     for width in 1..=6 {
         tables.extend((0..=width).map(|output| generate::adder_output(width, output)));
     }
@@ -193,10 +194,10 @@ fn known_functions() -> Vec<Table> {
     tables
 }
 
-/// Tables of known functions of up to 12 variables, each also with a tenth and
-/// with half of its points made free.
+/// Tables of known functions, each also with a tenth and with half of its points
+/// made free.
 pub fn known_tables() -> impl Iterator<Item = Table> {
-    known_tables_of(1..=12)
+    known_tables_of(1..=MAX_VARIABLES)
 }
 
 /// As before, for some numbers of variables.
@@ -219,12 +220,12 @@ fn with_each_free(generator: &mut Generator, table: Table) -> [Table; 3] {
     [table, on, off]
 }
 
-/// Functions of 1 to 12 variables built from a random space and a random
+/// Functions of every number of variables built from a random space and a random
 /// restriction of each number of variables up to the given one, with and without
 /// free points.
 pub fn kept_tables(seed: u64, rounds: usize, most_kept: usize) -> impl Iterator<Item = Table> {
     let mut generator = Generator::new(seed);
-    let widths = (0..rounds).flat_map(|_| 1..=12usize);
+    let widths = (0..rounds).flat_map(|_| 1..=MAX_VARIABLES);
     let kinds = widths.flat_map(move |n| (0..=n.min(most_kept)).map(move |kept| (n, kept)));
     some(kinds).flat_map(move |(n, kept)| {
         let on_percent = generator.below(101);
@@ -233,15 +234,15 @@ pub fn kept_tables(seed: u64, rounds: usize, most_kept: usize) -> impl Iterator<
     })
 }
 
-/// Functions of up to 12 variables whose restriction is a known function of up to
-/// seven, with and without free points.
+/// Functions whose restriction is a known function of up to seven variables, as
+/// wide as it and wider, with and without free points.
 pub fn lifted_tables(seed: u64) -> impl Iterator<Item = Table> {
     let mut generator = Generator::new(seed);
     let known = known_functions().into_iter();
     let narrow = known.filter(|&(kept, _, _)| kept <= 7);
     let kinds = narrow.flat_map(|(kept, on, _)| {
         let flags = space::flags(kept, &on);
-        [kept, 10, 12].map(|n| (n, kept, flags.clone()))
+        [kept, 10, MAX_VARIABLES].map(|n| (n, kept, flags.clone()))
     });
     some(kinds).flat_map(move |(n, kept, flags)| {
         let basis = generate::random_space(&mut generator, n, n - kept);

@@ -5,6 +5,7 @@
 use crate::lent_calls;
 use crate::report::compare_text;
 use crate::tally::Tally;
+use glospruma::MAX_POINTS;
 use library::Analysis;
 use std::fs;
 use std::path::PathBuf;
@@ -40,7 +41,7 @@ fn analysis_lines(n: usize, found: &Analysis, restriction: &[u16]) -> String {
 
 /// The report without its products.
 fn report(bytes: &[u8]) -> String {
-    let (mut on, mut free, mut room) = ([0; 4096], [0; 4096], [0; 4096]);
+    let [mut on, mut free, mut room] = [[0; MAX_POINTS]; 3];
     let read = lent_calls::read_table(bytes, &mut on, &mut free);
     if read.refusal != 0 {
         return format!("refused {}\n", read.refusal);

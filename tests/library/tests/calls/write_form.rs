@@ -8,6 +8,7 @@ use crate::lent_calls;
 use crate::lists;
 use crate::tables;
 use crate::tally::{assert_counts, Tally};
+use glospruma::{MAX_POINTS, MAX_VARIABLES};
 use library::FormWritten;
 use reference::calls;
 use reference::generate;
@@ -74,7 +75,7 @@ impl Check {
             tally: Tally::new(title),
             kept: [0; 8],
             most_products: 0,
-            room: vec![0; 4096],
+            room: vec![0; MAX_POINTS],
         }
     }
 
@@ -136,7 +137,7 @@ fn random_and_known_tables() {
     check.finish(&[0, 5, 7], 7, 50);
 }
 
-/// Restrictions of no variable to seven, of functions up to 12 variables.
+/// Restrictions of no variable to seven.
 #[test]
 fn random_restrictions() {
     let mut check = Check::new("write form, random restrictions");
@@ -201,7 +202,7 @@ fn order_of_refusals() {
     let even: Vec<u16> = (0..128).step_by(2).collect();
     let cases: [(usize, &[u16], &[u16], u8); 16] = [
         (0, &[], &[], 1),
-        (13, &[1], &[1], 1),
+        (MAX_VARIABLES + 1, &[1], &[1], 1),
         (7, &[128], &[], 2),
         (7, &[1, 1], &[128], 2),
         (7, &[1, 1], &[1], 3),

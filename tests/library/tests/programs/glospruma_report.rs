@@ -3,6 +3,7 @@
 //! known, tables of all sizes, and inputs longer than any table. Follows document
 //! 01, section "The printed report".
 
+use glospruma::{MAX_POINTS, MAX_VARIABLES, TABLE_LENGTH};
 use library::programs::run;
 use library::settings::taken;
 use reference::generate::{self, Generator};
@@ -10,10 +11,10 @@ use reference::report;
 use reference::table::{self, Table};
 
 /// How much of an input the program reads: a byte more than the longest table.
-const INPUT_ROOM: usize = 12_294;
+const INPUT_ROOM: usize = TABLE_LENGTH + 1;
 
-/// The longest text that is known: 12 variables, and all points on but one of one
-/// digit.
+/// The longest text that is known: the most variables, and all points on but one of
+/// one digit.
 const LONGEST_TEXT: usize = 19_541;
 
 /// Compares the program with the reference; how long the report is.
@@ -33,12 +34,12 @@ fn stored((n, on, free): &Table) -> Vec<u8> {
 
 #[test]
 fn longest_texts() {
-    let all_but = |off| generate::table_of(12, |point| point != off);
+    let all_but = |off| generate::table_of(MAX_VARIABLES, |point| point != off);
     for off in 0..10 {
         assert_eq!(compare(&stored(&all_but(off))), LONGEST_TEXT);
     }
-    for off in [10, 2048, 4095] {
-        assert!(compare(&stored(&all_but(off))) < LONGEST_TEXT);
+    for off in [10, MAX_POINTS / 2, MAX_POINTS - 1] {
+        assert!(compare(&stored(&all_but(off as u16))) < LONGEST_TEXT);
     }
 }
 
@@ -48,7 +49,7 @@ fn texts_longer_than_the_input() {
     for _ in 0..taken(200) {
         let on = 65 + generator.below(35);
         let free = generator.below(100 - on);
-        let table = generate::random_table(&mut generator, 12, on, free);
+        let table = generate::random_table(&mut generator, MAX_VARIABLES, on, free);
         let length = compare(&stored(&table));
         assert!(length > INPUT_ROOM, "{length} bytes");
     }
@@ -58,7 +59,7 @@ fn texts_longer_than_the_input() {
 fn tables_of_all_sizes() {
     let mut generator = Generator::new(191);
     for case in 0..taken(600) {
-        let n = case % 12 + 1;
+        let n = case % MAX_VARIABLES + 1;
         let kept = generator.below(n + 1);
         let table = generate::closed_table(&mut generator, n, kept, 50);
         compare(&stored(&table));
@@ -68,7 +69,7 @@ fn tables_of_all_sizes() {
 /// The longest table is read whole; with a byte after it, or many, it is refused.
 #[test]
 fn longer_inputs() {
-    let longest = stored(&generate::table_of(12, |_| true));
+    let longest = stored(&generate::table_of(MAX_VARIABLES, |_| true));
     assert_eq!(longest.len(), INPUT_ROOM - 1);
     compare(&longest);
     for more in [1, 2, 3, 1000, 1 << 20] {

@@ -156,7 +156,7 @@ pub fn shape(generator: &mut Generator, most_inputs: usize, most_outputs: usize)
 /// have two inputs and one output.
 pub fn statements(generator: &mut Generator) -> Vec<u8> {
     const SETTINGS: [&str; 16] = [
-        ".i 2", ".o 1", ".type f", ".type fd", ".p 1", ".p 2", ".p 3", ".ilb a b", ".i 13", ".o 0",
+        ".i 2", ".o 1", ".type f", ".type fd", ".p 1", ".p 2", ".p 3", ".ilb a b", ".i 99", ".o 0",
         ".type g", ".p x", ".i", ".o 1 1", ".phase 1", ".e",
     ];
     const CUBES: [&str; 14] = [

@@ -4,10 +4,11 @@
 
 use crate::pla_texts::{self as texts, Shape, KINDS};
 use crate::tally::{assert_counts, Tally};
+use glospruma::MAX_VARIABLES;
 use library::programs::run;
 use library::settings::{some, taken};
 use reference::generate::{self, Generator};
-use reference::pla::{self, Refused};
+use reference::pla::{self, Refused, MOST_OUTPUTS};
 use reference::table::{self, Table};
 
 /// The longest text that the program reads.
@@ -102,7 +103,7 @@ fn each_refusal() {
         (".type fdr\n", "1", 31, 1),
         (".e 1\n", "1", 31, 1),
         (".i 0\n", "1", 32, 1),
-        (".i 13\n", "1", 32, 1),
+        (".i 99\n", "1", 32, 1),
         (".i 1.\n", "1", 32, 1),
         (".i +2\n", "1", 32, 1),
         (".i 18446744073709551617\n", "1", 32, 1),
@@ -143,11 +144,11 @@ fn each_refusal() {
         (".i 2\n.o 1\n", "18446744073709551617", 40, 0),
         // Of two faults: the first line, and in one line 35, then 31 for the
         // number of words, then 34, then the word.
-        (".i 2\n.o 9999\n.i 13\n", "0", 33, 2),
+        (".i 2\n.o 9999\n.i 99\n", "0", 33, 2),
         (".e\n.phase\n", "1", 35, 2),
         (".e\n1\n", "1", 35, 2),
         (".i 2\n.i\n", "1", 31, 2),
-        (".i 2\n.i 13\n", "1", 34, 2),
+        (".i 2\n.i 99\n", "1", 34, 2),
         (".o 2\n.o 0\n", "1", 34, 2),
         (".p 2\n.p x\n", "1", 34, 2),
         (".type f\n.type x\n", "1", 34, 2),
@@ -162,6 +163,8 @@ fn each_refusal() {
     }
     let told: std::collections::BTreeSet<u8> = cases.iter().map(|case| case.2).collect();
     assert_eq!(told, (31..=40).collect());
+    let too_many = format!(".i {}\n", MAX_VARIABLES + 1);
+    expect(&too_many, "1", Err((32, 1)));
 }
 
 /// What looks like a fault and is none.
@@ -218,7 +221,7 @@ fn whole_texts() {
     let mut counts = Counts::default();
     let mut generator = Generator::new(180);
     for turn in some(0..250) {
-        let most_inputs = if turn < 200 { 6 } else { 12 };
+        let most_inputs = if turn < 200 { 6 } else { MAX_VARIABLES };
         let shape = texts::shape(&mut generator, most_inputs, 4);
         let text = texts::whole(&mut generator, shape, 12);
         for chosen in 1..=shape.outputs {
@@ -285,7 +288,7 @@ fn any_bytes() {
 #[test]
 fn tables_there_and_back() {
     let mut generator = Generator::new(183);
-    for n in some((1..=12).flat_map(|n| [n; 4])) {
+    for n in some((1..=MAX_VARIABLES).flat_map(|n| [n; 4])) {
         let on_percent = generator.below(101);
         let free_percent = generator.below(101 - on_percent);
         let table = generate::random_table(&mut generator, n, on_percent, free_percent);
@@ -317,11 +320,11 @@ fn largest_texts() {
     for kind in KINDS {
         let shape = Shape {
             kind,
-            inputs: 12,
-            outputs: 4096,
+            inputs: MAX_VARIABLES,
+            outputs: MOST_OUTPUTS,
         };
         let text = texts::whole(&mut generator, shape, 12);
-        for chosen in [1, 2, 4095, 4096, 4097, 0] {
+        for chosen in [1, 2, MOST_OUTPUTS - 1, MOST_OUTPUTS, MOST_OUTPUTS + 1, 0] {
             let _ = compare(&mut tally, &text, chosen);
         }
     }

@@ -5,6 +5,7 @@
 use crate::measure::{compare, slowest};
 use crate::plain;
 use crate::VARIABLES;
+use glospruma::MAX_POINTS;
 use reference::generate::{self, Generator};
 use reference::table::{self, Table};
 use std::fmt::Debug;
@@ -34,7 +35,7 @@ fn table(generator: &mut Generator, n: usize) -> Table {
 /// Tables of n variables whose completed functions keep six.
 fn tables(n: usize) -> Vec<Table> {
     let mut generator = Generator::new(2);
-    let mut room = vec![0; 4096];
+    let mut room = vec![0; MAX_POINTS];
     let mut tables = Vec::new();
     while tables.len() < TABLES {
         let (n, on, free) = table(&mut generator, n);

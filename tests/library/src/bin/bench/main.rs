@@ -1,13 +1,15 @@
 //! Times of the static library's calls beside plain Rust with the same
 //! algorithms, in one run, and their ratio. Follows document 01, sections "Points
-//! and spaces", "Primes", "The written form" and "The printed report". The
-//! address at which a tight loop happens to stand changes its time by up to a
-//! third, on either side, so a ratio says no more than that.
+//! and spaces", "Primes", "The written form" and "The printed report", and
+//! document 02. The address at which a tight loop happens to stand changes its time
+//! by up to a third, on either side, so a ratio says no more than that.
 
+mod comparisons;
 mod forms;
 mod measure;
 mod plain;
 
+use glospruma::MAX_POINTS;
 use library::{Analysis, Completion, Listed};
 use measure::compare;
 use reference::generate::{self, Generator};
@@ -90,7 +92,7 @@ fn point_call<T: PartialEq + Debug>(
     library_call: PointCall<T>,
     plain_call: PointCall<T>,
 ) {
-    let (mut library_room, mut plain_room) = (vec![0; 4096], vec![0; 4096]);
+    let (mut library_room, mut plain_room) = (vec![0; MAX_POINTS], vec![0; MAX_POINTS]);
     for table in tables {
         let answer = make(library_call, table, &mut library_room);
         assert_eq!(answer, make(plain_call, table, &mut plain_room));
@@ -179,4 +181,5 @@ fn main() {
     );
     listings();
     forms::forms();
+    comparisons::comparisons();
 }

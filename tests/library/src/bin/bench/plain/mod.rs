@@ -3,13 +3,15 @@
 //! witness against closure, made of the full basis first and then of single
 //! vectors, rising, without those that have a lead bit of the basis; insertion
 //! into a reduced basis; for primes, the table of all reduced bases, and for a
-//! form the first prime that holds a point. Follows document 01, sections "Points
-//! and spaces", "Primes", "The written form" and "The printed report".
+//! form the first prime that holds a point; for a comparison, one mark to a point.
+//! Follows document 01, sections "Points and spaces", "Primes", "The written form"
+//! and "The printed report", and document 02.
 
 mod analyse;
 mod bases;
 mod basis;
 mod choice;
+mod compare;
 mod complete;
 mod linear_space;
 mod list_primes;
@@ -22,6 +24,7 @@ mod text;
 mod write_form;
 
 pub use analyse::analyse;
+pub use compare::compare;
 pub use complete::complete;
 pub use linear_space::linear_space;
 pub use list_primes::list_primes;

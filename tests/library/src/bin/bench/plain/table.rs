@@ -1,8 +1,10 @@
 //! The tests on two lists, flags of points, and room for points. Follows document
 //! 01, section "Refusal numbers".
 
+use glospruma::{MAX_POINTS, MAX_VARIABLES};
+
 /// One flag to a point.
-pub type Flags = [bool; 4096];
+pub type Flags = [bool; MAX_POINTS];
 
 /// Sets the flags of the points of a list.
 pub fn mark(flags: &mut Flags, points: &[u16]) {
@@ -23,7 +25,7 @@ fn has_falling(points: &[u16]) -> bool {
 
 /// The flags of the on points, or refusal 1, 2, 3 or 4.
 pub fn checked(n: usize, on: &[u16], free: &[u16]) -> Result<Flags, u8> {
-    if n == 0 || n > 12 {
+    if n == 0 || n > MAX_VARIABLES {
         return Err(1);
     }
     if has_large(n, on) || has_large(n, free) {
@@ -32,7 +34,7 @@ pub fn checked(n: usize, on: &[u16], free: &[u16]) -> Result<Flags, u8> {
     if has_falling(on) || has_falling(free) {
         return Err(3);
     }
-    let mut flags = [false; 4096];
+    let mut flags = [false; MAX_POINTS];
     mark(&mut flags, on);
     if free.iter().any(|&point| flags[usize::from(point)]) {
         return Err(4);
