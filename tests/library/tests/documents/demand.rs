@@ -144,7 +144,14 @@ fn contracts_are_those_of_demand_1() {
 /// The fields of a struct of the crates' code, or of a record of their definitions.
 fn fields(name: &str) -> Vec<String> {
     let code = [
-        "basis", "stored", "compare", "form_calls", "listing", "writing", "report", "analysis",
+        "basis",
+        "stored",
+        "compare",
+        "form_calls",
+        "listing",
+        "writing",
+        "report",
+        "analysis",
     ];
     let texts = code.map(|name| read(&format!("crates/{name}/src/lib.rt")));
     let opening = format!("pub struct {name} {{");
