@@ -27,14 +27,14 @@ use Rattle.point_marks.specs.Marks.{storedMark}
 use Rattle.point_marks.proofs.Marks.{marked-on, marked-free, marked-off}
 use Rattle.compare.specs.declared.Comparison.{Comparison}
 use Rattle.compare.specs.Differences.{isListed, differenceLength, differenceOf, differencesOf, fitting, differingFrom, nextPoint}
-use Rattle.compare.specs.Answer.{tableSize, Comparable, compareTests, compareFault, compareAccepted, compareRefused, compareAnswer}
+use Rattle.compare.specs.Answer.{tableSize, Comparable, compareTests, compareDiffering, compareFault, compareAccepted, compareRefused, compareAnswer}
 use Rattle.compare.proofs.Records.{differences-length, differences-append}
 use Rattle.compare.proofs.Stopping.{Stop}
 use Rattle.compare.proofs.Joining.{listed-differs, from-mem, from-rising, differing-all, from-none, from-add, from-exchange, from-same}
 use Rattle.compare.proofs.Refusals.{compare-exactly}
 use Rattle.compare.proofs.Answering.{compare-stop, handed-before, compare-refused, compare-accepted}
 use Rattle.claims.specs.Demand3.{sumOf}
-use Rattle.claims.specs.Compared.{Comparing, returned, roomReturned, handedRecords, exchanged, exchangedMarks, MarkedAs, pointAfter, GoesOn, pointReached, hasRoom, between, allDiffering, recordOfPoint, StopsBefore, DiffersNowhere, ExchangesMarks, Compared}
+use Rattle.claims.specs.Compared.{Comparing, returned, roomReturned, handedRecords, exchanged, exchangedMarks, MarkedAs, pointAfter, GoesOn, pointReached, hasRoom, between, recordOfPoint, StopsBefore, DiffersNowhere, ExchangesMarks, Compared}
 
 -- ---- one call
 
@@ -51,7 +51,7 @@ pub record Taken (c : Comparing) : Type 0 where
   pub next : returned c .next ≡ nextPoint (storedMark (c .left)) (storedMark (c .right)) (c .first) (tableSize (c .left)) (length (c .room))
   pub stop : Stop (isListed (storedMark (c .left)) (storedMark (c .right)) (c .first)) (tableSize (c .left)) (fitting (length (c .room))) (returned c .next)
   pub records : returned c .records ≡ length (between (c .left) (c .right) (c .first) (returned c .next))
-  pub total : returned c .total ≡ length (allDiffering (c .left) (c .right))
+  pub total : returned c .total ≡ length (compareDiffering (c .left) (c .right))
   pub room : roomReturned c ≡ front (differencesOf (storedMark (c .left)) (storedMark (c .right)) (between (c .left) (c .right) (c .first) (returned c .next))) (c .room)
 
 pub taken : (c : Comparing) → returned c .refusal ≡ 0 → Taken c
@@ -301,7 +301,7 @@ itself-nowhere : (c : Comparing) → storedFault (c .left) ≡ 0 → c .right �
 unfolding differencesOf flatMap
 itself-nowhere c e q h = record {
   numbers = same-numbers (returned c) _ accepted (t .records ∙ ap length none) next
-      (t .total ∙ ap length (ap (λ (x : List ℕ). allDiffering (c .left) x) q ∙ differing-all m m (tableSize (c .left)) ∙ from-same m 0 (tableSize (c .left))));
+      (t .total ∙ ap length (ap (λ (x : List ℕ). compareDiffering (c .left) x) q ∙ differing-all m m (tableSize (c .left)) ∙ from-same m 0 (tableSize (c .left))));
   room = t .room ∙ ap (λ (ps : List ℕ). front (differencesOf m (storedMark (c .right)) ps) (c .room)) none;
 }
   where
@@ -371,7 +371,7 @@ exchange-marks c e = record {
     records : returned d .records ≡ returned c .records
     records = u .records ∙ ap length points ∙ sym (t .records)
 
-    total : allDiffering (c .right) (c .left) ≡ allDiffering (c .left) (c .right)
+    total : compareDiffering (c .right) (c .left) ≡ compareDiffering (c .left) (c .right)
     total =
         differing-all r l (tableSize (c .right)) ∙ from-exchange l r 0 (tableSize (c .right)) ∙ ap (differingFrom l r 0) size ∙ sym (differing-all l r (tableSize (c .left)))
 
@@ -426,7 +426,7 @@ module _ (left right : List ℕ) (s : Comparable left right) (first : ℕ) (h : 
     rising = from-rising (storedMark left) (storedMark right) first (pointReached first calls);
     once = ordered-with _<_ (λ p q. recordOfPoint left right p ≢ recordOfPoint left right q) (between left right first (pointReached first calls))
         (λ p q a b k e. omega (arith, record-tells left right p q e)) (from-rising (storedMark left) (storedMark right) first (pointReached first calls));
-    four-bytes = λ p. refl;
+    layout = λ p. refl;
     left-marks = marked-as left (s .left-sound);
     right-marks = marked-as right (s .right-sound);
     low = whole-run .low;
@@ -439,7 +439,7 @@ module _ (left right : List ℕ) (s : Comparable left right) (first : ℕ) (h : 
         let same = goes-on-call left right first first calls g c m (room-is c e .0) in
         room-moves c e (omega (arith, k, ap tableSize (same .0)));
     enough = reaches;
-    total = λ c l r a. taken c a .total ∙ ap length (ap₂ allDiffering l r);
+    total = λ c l r a. taken c a .total ∙ ap length (ap₂ compareDiffering l r);
     all-exact = λ p. (
       λ m. let k = from-mem (storedMark left) (storedMark right) 0 (tableSize left) p .0 (subst (Mem p) (differing-all (storedMark left) (storedMark right) (tableSize left)) m) in (k .1, k .2),
       λ k. subst (Mem p) (sym (differing-all (storedMark left) (storedMark right) (tableSize left))) (from-mem (storedMark left) (storedMark right) 0 (tableSize left) p .1 (omega arith, k .0, k .1)),

@@ -10,7 +10,7 @@ use mathlib.Core.Path.{_≡_}
 use mathlib.Core.Bool.{Bool, true, cond, _&&_}
 use mathlib.Core.Logic.{_⊎_, _≢_, _↔_}
 use mathlib.Core.List.{List, [], _∷_, flatMap}
-use Prim.Native.Nat.{ℕ, suc, _*_, _≤_, _<_}
+use Prim.Native.Nat.{ℕ, suc, _*_, _/_, _%_, _≤_, _<_}
 use lib.ListN.{length, take, drop}
 use lib.Dec.{eqb, leb}
 use Rattle.gf2.specs.Finite.{Mem, Ordered, Rising}
@@ -18,8 +18,8 @@ use Rattle.stored.specs.Marks.{storedOn, storedFree}
 use Rattle.cubes.specs.Lists.{keep}
 use Rattle.point_marks.specs.Marks.{storedMark}
 use Rattle.compare.specs.declared.Comparison.{Comparison}
-use Rattle.compare.specs.Differences.{differenceLength, differenceOf, differencesOf, differing, differingFrom}
-use Rattle.compare.specs.Answer.{tableSize, compareAnswer, compareAfter}
+use Rattle.compare.specs.Differences.{differenceLength, differenceOf, differencesOf, differingFrom}
+use Rattle.compare.specs.Answer.{tableSize, compareDiffering, compareAnswer, compareAfter}
 use Rattle.claims.specs.Demand3.{sumOf}
 
 -- ---- one call
@@ -82,14 +82,11 @@ hasRoom c = eqb (returned c .refusal) 0 && leb differenceLength (length (c .room
 
 -- ---- the claim
 
--- The points that differ in the two tables: from a first point on and below a bound, and all of them.
+-- The points at which the two tables differ, from a first point on and below a bound. All of them are `compareDiffering`.
 abbrev pub between : List ℕ → List ℕ → ℕ → ℕ → List ℕ
 between left right first bound = differingFrom (storedMark left) (storedMark right) first bound
 
-abbrev pub allDiffering : List ℕ → List ℕ → List ℕ
-allDiffering left right = differing (storedMark left) (storedMark right) (tableSize left)
-
--- The record of a point that differs: the point, low byte first, and both marks.
+-- The record of a point that differs.
 abbrev pub recordOfPoint : List ℕ → List ℕ → ℕ → List ℕ
 recordOfPoint left right p = differenceOf (storedMark left) (storedMark right) p
 
@@ -117,14 +114,15 @@ pub record Compared (left right : List ℕ) (first : ℕ) (calls : List Comparin
   -- A call for the two tables is accepted exactly where its first point is at most 2 ^ n; a refused call hands over nothing.
   pub accepts : (c : Comparing) → c .left ≡ left → c .right ≡ right → (returned c .refusal ≡ 0) ↔ (c .first ≤ tableSize left)
   pub refused : (c : Comparing) → returned c .refusal ≢ 0 → handedRecords c ≡ []
-  -- What was handed over, joined: a record of 4 bytes for each differing point from the first point on up to the point returned, rising, each once.
+  -- What was handed over, joined: a record for each differing point from the first point on up to the point returned, rising, each once. A record is the
+  -- point, low byte first, then the left and the right mark.
   pub handed : flatMap handedRecords calls ≡ differencesOf (storedMark left) (storedMark right) (between left right first (pointReached first calls))
   pub number : sumOf (λ c. returned c .records) calls ≡ length (between left right first (pointReached first calls))
   pub exact : (p : ℕ) → Mem p (between left right first (pointReached first calls))
       ↔ ((first ≤ p) × (p < pointReached first calls) × (storedMark left p ≢ storedMark right p))
   pub rising : Rising (between left right first (pointReached first calls))
   pub once : Ordered (λ p q. recordOfPoint left right p ≢ recordOfPoint left right q) (between left right first (pointReached first calls))
-  pub four-bytes : (p : ℕ) → length (recordOfPoint left right p) ≡ 4
+  pub layout : (p : ℕ) → recordOfPoint left right p ≡ p % 256 ∷ p / 256 ∷ storedMark left p ∷ storedMark right p ∷ []
   -- Both marks are as the two tables have them.
   pub left-marks : (p : ℕ) → MarkedAs left p
   pub right-marks : (p : ℕ) → MarkedAs right p
@@ -138,8 +136,8 @@ pub record Compared (left right : List ℕ) (first : ℕ) (calls : List Comparin
   pub forward : (c : Comparing) → Mem c calls → hasRoom c ≡ true → c .first < tableSize left → c .first < returned c .next
   pub enough : 0 < length (keep hasRoom calls) → length (between left right first (tableSize left)) ≤ length (keep hasRoom calls) → pointReached first calls ≡ tableSize left
   -- The total is the number of differing points of all 2 ^ n, the same in every call, whatever its first point and its room.
-  pub total : (c : Comparing) → c .left ≡ left → c .right ≡ right → returned c .refusal ≡ 0 → returned c .total ≡ length (allDiffering left right)
-  pub all-exact : (p : ℕ) → Mem p (allDiffering left right) ↔ ((p < tableSize left) × (storedMark left p ≢ storedMark right p))
-  pub all-rising : Rising (allDiffering left right)
+  pub total : (c : Comparing) → c .left ≡ left → c .right ≡ right → returned c .refusal ≡ 0 → returned c .total ≡ length (compareDiffering left right)
+  pub all-exact : (p : ℕ) → Mem p (compareDiffering left right) ↔ ((p < tableSize left) × (storedMark left p ≢ storedMark right p))
+  pub all-rising : Rising (compareDiffering left right)
   pub itself : (c : Comparing) → c .left ≡ left → c .right ≡ left → c .first ≤ tableSize left → DiffersNowhere left c
   pub exchange : (c : Comparing) → c .left ≡ left → c .right ≡ right → returned c .refusal ≡ 0 → ExchangesMarks c
