@@ -1,4 +1,4 @@
--- The answer of comparing and the room after it, by the decision over its tests, and from marks that stand in two arrays. Read next: crate `claims`.
+-- The answer of comparing and the room after it, by the decision over its tests, and from marks that stand in two arrays. Read next: Examples.
 use mathlib.Core.Path.{_≡_, sym, ap, _∙_}
 use mathlib.Core.Logic.{_≢_, inl, inr}
 use mathlib.Core.List.{List}

@@ -1,5 +1,5 @@
--- Two tables of two inputs side by side, computed from the definitions. Point 0 is on in both; 1 is free on the left and on on the right, 2 is off and
--- free, 3 is on and off.
+-- Two tables of two inputs side by side, computed from the definitions. Point 0 is on in both; 1 is free in the left one and on in the right one, 2 is
+-- off and free, 3 is on and off. Read next: crate `claims`.
 use mathlib.Core.Path.{_≡_, refl}
 use mathlib.Core.List.{List, [], _∷_, flatMap}
 use Prim.Native.Nat.{ℕ}

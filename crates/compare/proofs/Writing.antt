@@ -1,4 +1,4 @@
--- The listing of differing points turn by turn, as the loop of `write_differing` goes: one law for each way through a turn. Read next: Answering.
+-- The listing of differing points turn by turn, as the loop of `write_differing` goes: one law for each way through a turn. Read next: Refusals.
 use mathlib.Core.Path.{_≡_, sym, ap, _∙_}
 use mathlib.Core.Bool.{Bool, true, false}
 use mathlib.Core.Logic.{_≢_}
