@@ -29,7 +29,7 @@ use Rattle.compare.specs.declared.Comparison.{Comparison}
 use Rattle.compare.specs.Differences.{isListed, differenceLength, differenceOf, differencesOf, fitting, differingFrom, nextPoint}
 use Rattle.compare.specs.Answer.{tableSize, Comparable, compareTests, compareDiffering, compareFault, compareAccepted, compareRefused, compareAnswer}
 use Rattle.compare.proofs.Records.{differences-length, differences-append}
-use Rattle.compare.proofs.Stopping.{Stop}
+use Rattle.compare.proofs.Stopping.{ListingStop}
 use Rattle.compare.proofs.Joining.{listed-differs, from-mem, from-rising, differing-all, from-none, from-add, from-exchange, from-same}
 use Rattle.compare.proofs.Refusals.{compare-exactly}
 use Rattle.compare.proofs.Answering.{compare-stop, handed-before, compare-refused, compare-accepted}
@@ -49,7 +49,7 @@ pub record Taken (c : Comparing) : Type 0 where
   pub tables : Comparable (c .left) (c .right)
   pub start : c .first ≤ tableSize (c .left)
   pub next : returned c .next ≡ nextPoint (storedMark (c .left)) (storedMark (c .right)) (c .first) (tableSize (c .left)) (length (c .room))
-  pub stop : Stop (isListed (storedMark (c .left)) (storedMark (c .right)) (c .first)) (tableSize (c .left)) (fitting (length (c .room))) (returned c .next)
+  pub stop : ListingStop (isListed (storedMark (c .left)) (storedMark (c .right)) (c .first)) (tableSize (c .left)) (fitting (length (c .room))) (returned c .next)
   pub records : returned c .records ≡ length (between (c .left) (c .right) (c .first) (returned c .next))
   pub total : returned c .total ≡ length (compareDiffering (c .left) (c .right))
   pub room : roomReturned c ≡ front (differencesOf (storedMark (c .left)) (storedMark (c .right)) (between (c .left) (c .right) (c .first) (returned c .next))) (c .room)
@@ -68,7 +68,7 @@ taken c e =
       tables = sound .0;
       start = sound .1;
       next = sym next;
-      stop = subst (Stop (isListed l r (c .first)) size (fitting (length (c .room)))) next (compare-stop l r (c .first) size (length (c .room)));
+      stop = subst (ListingStop (isListed l r (c .first)) size (fitting (length (c .room)))) next (compare-stop l r (c .first) size (length (c .room)));
       records = ap (λ (a : Comparison). a .records) (sym (given .0)) ∙ ap length points;
       total = ap (λ (a : Comparison). a .total) (sym (given .0));
       room = sym (given .1) ∙ ap (λ ps. front (differencesOf l r ps) (c .room)) points;

@@ -17,15 +17,15 @@ use Rattle.compare.specs.declared.Stopped.{Stopped}
 use Rattle.compare.specs.Differences.{differs, differing, isListed, differingFrom, differencesOf, fitting, handedPoints, handedBytes, nextPoint, stoppedAt}
 use Rattle.compare.specs.Answer.{tableSize, compareTests, compareFault, compareBytes, compareAccepted, compareRefused, compareAnswer, compareAfter}
 use Rattle.compare.proofs.Records.{differences-ext}
-use Rattle.compare.proofs.Stopping.{Stop, stop}
+use Rattle.compare.proofs.Stopping.{ListingStop, listing-stop}
 use Rattle.compare.proofs.Refusals.{compare-exactly}
 
 -- ---- where a listing stops
 
 module _ (left right : ℕ → ℕ) (first size bytes : ℕ) where
-  pub compare-stop : Stop (isListed left right first) size (fitting bytes) (nextPoint left right first size bytes)
+  pub compare-stop : ListingStop (isListed left right first) size (fitting bytes) (nextPoint left right first size bytes)
   unfolding nextPoint differingFrom
-  compare-stop = stop (isListed left right first) size (fitting bytes)
+  compare-stop = listing-stop (isListed left right first) size (fitting bytes)
 
   pub next-within : nextPoint left right first size bytes ≤ size
   next-within = elim (compare-stop .at) [ inl e ↦ omega arith | inr h ↦ omega (arith, h .0) ]

@@ -64,15 +64,15 @@ module _ (t : ℕ → Bool) where
     ends h = (take-all fit (select t size) h, List·getD-eq-default (select t size) size h)
 
     -- In any case those below the next number are handed over, and that is the bound, or a number that passes and doesn't fit.
-    pub record Stop (next : ℕ) : Type 0 where
+    pub record ListingStop (next : ℕ) : Type 0 where
       pub handed : take fit (select t size) ≡ select t next
       pub few : length (select t next) ≤ fit
       pub at : (next ≡ size) ⊎ ((next < size) × (t next ≡ true) × (length (select t next) ≡ fit))
 
-    pub stop : Stop (getD (select t size) fit size)
-    stop = go (decLe (length (select t size)) fit)
+    pub listing-stop : ListingStop (getD (select t size) fit size)
+    listing-stop = go (decLe (length (select t size)) fit)
       where
-        go : Dec (length (select t size) ≤ fit) → Stop (getD (select t size) fit size)
+        go : Dec (length (select t size) ≤ fit) → ListingStop (getD (select t size) fit size)
         go (yes h) =
             let e = ends h in
             rw (e .1) (record { handed = e .0; few = h; at = inl refl })
