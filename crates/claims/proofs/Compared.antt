@@ -29,7 +29,7 @@ use Rattle.compare.specs.declared.Comparison.{Comparison}
 use Rattle.compare.specs.Differences.{isListed, differenceLength, differenceOf, differencesOf, fitting, differingFrom, nextPoint}
 use Rattle.compare.specs.Answer.{tableSize, Comparable, compareTests, compareDiffering, compareFault, compareAccepted, compareRefused, compareAnswer}
 use Rattle.compare.proofs.Records.{differences-length, differences-append}
-use Rattle.compare.proofs.Stopping.{ListingStop}
+use Rattle.compare.proofs.Stopping.{ListingStop, stop-within}
 use Rattle.compare.proofs.Joining.{listed-differs, from-mem, from-rising, differing-all, from-none, from-add, from-exchange, from-same}
 use Rattle.compare.proofs.Refusals.{compare-exactly}
 use Rattle.compare.proofs.Answering.{compare-stop, handed-before, compare-refused, compare-accepted}
@@ -101,7 +101,7 @@ module _ (c : Comparing) (t : Taken c) where
   taken-low = elim (t .stop .at) [ inl e ↦ omega (arith, t .start) | inr h ↦ leb-true (c .first) (returned c .next) (and-l (leb (c .first) (returned c .next)) _ (h .1)) ]
 
   taken-high : returned c .next ≤ tableSize (c .left)
-  taken-high = elim (t .stop .at) [ inl e ↦ omega arith | inr h ↦ omega (arith, h .0) ]
+  taken-high = stop-within (isListed (storedMark (c .left)) (storedMark (c .right)) (c .first)) (tableSize (c .left)) (fitting (length (c .room))) (t .stop)
 
   -- It stops at 2 ^ n, or before a point that differs with the room full.
   pub taken-at : (returned c .next ≡ tableSize (c .left))

@@ -1,6 +1,6 @@
 -- The answer of comparing and the room after it, by the decision over its tests, and from marks that stand in two arrays. Read next: Examples.
 use mathlib.Core.Path.{_≡_, sym, ap, _∙_}
-use mathlib.Core.Logic.{_≢_, inl, inr}
+use mathlib.Core.Logic.{_≢_}
 use mathlib.Core.List.{List}
 use Prim.Native.Nat.{ℕ, _≤_, _<_}
 use native.Mathlib.Omega.{arith}
@@ -17,7 +17,7 @@ use Rattle.compare.specs.declared.Stopped.{Stopped}
 use Rattle.compare.specs.Differences.{differs, differing, isListed, differingFrom, differencesOf, fitting, handedPoints, handedBytes, nextPoint, stoppedAt}
 use Rattle.compare.specs.Answer.{tableSize, compareTests, compareFault, compareBytes, compareAccepted, compareRefused, compareAnswer, compareAfter}
 use Rattle.compare.proofs.Records.{differences-ext}
-use Rattle.compare.proofs.Stopping.{ListingStop, listing-stop}
+use Rattle.compare.proofs.Stopping.{ListingStop, stop-within, listing-stop}
 use Rattle.compare.proofs.Refusals.{compare-exactly}
 
 -- ---- where a listing stops
@@ -28,7 +28,7 @@ module _ (left right : ℕ → ℕ) (first size bytes : ℕ) where
   compare-stop = listing-stop (isListed left right first) size (fitting bytes)
 
   pub next-within : nextPoint left right first size bytes ≤ size
-  next-within = elim (compare-stop .at) [ inl e ↦ omega arith | inr h ↦ omega (arith, h .0) ]
+  next-within = stop-within (isListed left right first) size (fitting bytes) compare-stop
 
   -- What is handed over is what stands before the next point.
   pub handed-before : handedPoints left right first size bytes ≡ differingFrom left right first (nextPoint left right first size bytes)

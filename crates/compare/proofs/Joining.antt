@@ -1,9 +1,9 @@
 -- Listings that go on where the one before stopped, and tables that are exchanged or the same. Read next: Writing.
 use mathlib.Core.Path.{_≡_, refl, sym, ap, _∙_}
-use mathlib.Core.Bool.{Bool, true, false, cond, not, _&&_}
+use mathlib.Core.Bool.{Bool, true, false, not, _&&_}
 use mathlib.Core.Logic.{_↔_, _≢_}
-use mathlib.Core.List.{[], _∷_, _++_, append-nil, append-assoc}
-use Prim.Native.Nat.{ℕ, zero, suc, _≤_, _<_}
+use mathlib.Core.List.{[], _++_}
+use Prim.Native.Nat.{ℕ, _≤_, _<_}
 use native.Mathlib.Decide.{ℕ-discrete}
 use native.Mathlib.Omega.{arith}
 use lib.Dec.{eqb, leb}
@@ -11,7 +11,7 @@ use lib.ListN.{length}
 use borrow.Author.Tests.{eq-eqb, ne-eqb, le-leb, leb-true}
 use Rattle.gf2.specs.Finite.{Mem, select, Rising}
 use Rattle.gf2.proofs.Logic.{clash, and-l, and-r, and-i, and-false}
-use Rattle.gf2.proofs.Finite.{select-ext, select-none, select-mem, mem-select, select-rising, select-length}
+use Rattle.gf2.proofs.Finite.{select-ext, select-none, select-split, select-mem, mem-select, select-rising, select-length}
 use Rattle.table.proofs.Table.{refuted}
 use Rattle.compare.specs.Differences.{differs, differing, isListed, differingFrom}
 
@@ -59,22 +59,15 @@ module _ (left right : ℕ → ℕ) where
   -- Those below a later point, and those from it on.
   pub from-add : (first next bound : ℕ) → first ≤ next → next ≤ bound
       → differingFrom left right first bound ≡ differingFrom left right first next ++ differingFrom left right next bound
-  unfolding differingFrom select
-  from-add first next zero h k = let z : next ≡ 0 = omega arith in rw z
-  from-add first next (suc m) h k = go (ℕ-discrete next (suc m)) (from-add first next m h)
+  unfolding differingFrom
+  from-add first next bound h k =
+      select-split (isListed left right first) next bound k
+      ∙ ap (λ l. select (isListed left right first) next ++ l)
+      (select-ext (λ p. leb next p && isListed left right first p) (isListed left right next) bound (λ p q. later p (leb next p) refl))
     where
-      more : (b : Bool) → select (isListed left right first) m ≡ select (isListed left right first) next ++ select (isListed left right next) m
-          → cond b (select (isListed left right first) m ++ (m ∷ [])) (select (isListed left right first) m)
-          ≡ select (isListed left right first) next ++ cond b (select (isListed left right next) m ++ (m ∷ [])) (select (isListed left right next) m)
-      more true i = ap (λ l. l ++ (m ∷ [])) i ∙ append-assoc (select (isListed left right first) next) (select (isListed left right next) m) (m ∷ [])
-      more false i = i
-
-      go : Dec (next ≡ suc m) → (next ≤ m → select (isListed left right first) m ≡ select (isListed left right first) next ++ select (isListed left right next) m)
-          → select (isListed left right first) (suc m) ≡ select (isListed left right first) next ++ select (isListed left right next) (suc m)
-      go (yes e) i =
-          let none : select (isListed left right next) (suc m) ≡ [] = from-none next (suc m) (omega arith) in
-          ap (select (isListed left right first)) (sym e) ∙ sym (append-nil (select (isListed left right first) next)) ∙ ap (λ l. select (isListed left right first) next ++ l) (sym none)
-      go (no n) i = rw (le-leb first m (omega (arith, n)), le-leb next m (omega (arith, n))) (more (differs left right m) (i (omega (arith, n))))
+      later : (p : ℕ) (b : Bool) → leb next p ≡ b → b && isListed left right first p ≡ b && differs left right p
+      later p false e = refl
+      later p true e = rw (le-leb first p (omega (arith, leb-true next p e)))
 
   -- The same points differ where the tables are exchanged.
   pub from-exchange : (first bound : ℕ) → differingFrom right left first bound ≡ differingFrom left right first bound

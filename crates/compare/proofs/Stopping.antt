@@ -1,35 +1,20 @@
 -- Where a listing stops: the numbers below a bound that pass a test, up to the first that doesn't fit. Read next: Joining.
 use mathlib.Core.Path.{_≡_, refl, sym, ap, _∙_}
-use mathlib.Core.Bool.{Bool, true, cond}
+use mathlib.Core.Bool.{Bool, true, cond, _&&_}
 use mathlib.Core.Logic.{_⊎_, inl, inr}
-use mathlib.Core.List.{List, [], _∷_, _++_, append-nil, append-assoc}
+use mathlib.Core.List.{List, [], _∷_, _++_}
 use Prim.Native.Nat.{ℕ, zero, suc, _≤_, _<_}
 use native.Mathlib.Nat.{lt-of-not-le}
 use native.Mathlib.Decide.{decLe, ℕ-discrete}
 use native.Mathlib.Omega.{arith}
 use lib.ListN.{length, take, getD, length-append, List·getD-eq-default}
+use lib.Dec.{leb}
 use lib.Seq.{take-all, take-at, getD-at, append-snoc}
 use Rattle.gf2.specs.Finite.{select}
 use Rattle.gf2.proofs.Logic.{cond-cases}
-use Rattle.gf2.proofs.Finite.{select-on}
+use Rattle.gf2.proofs.Finite.{select-on, select-split}
 
 module _ (t : ℕ → Bool) where
-  -- Those below a bound are those below a smaller one, and others behind them.
-  abbrev Behind : ℕ → List ℕ → Type 0
-  Behind j l = (rest : List ℕ) × (l ≡ select t j ++ rest)
-
-  split : (j k : ℕ) → j ≤ k → Behind j (select t k)
-  unfolding select
-  split j zero h = let e : j ≡ 0 = omega arith in ([], rw e)
-  split j (suc k) h = go (ℕ-discrete j (suc k)) (split j k)
-    where
-      go : Dec (j ≡ suc k) → (j ≤ k → Behind j (select t k)) → Behind j (select t (suc k))
-      go (yes e) i = ([], sym (append-nil (select t j) ∙ ap (select t) e))
-      go (no n) i =
-          let s = i (omega (arith, n)) in
-          cond-cases (Behind j) (t k) (select t k ++ (k ∷ [])) (select t k)
-          (λ e. (s .0 ++ (k ∷ []), ap (λ (l : List ℕ). l ++ (k ∷ [])) (s .1) ∙ append-assoc (select t j) (s .0) (k ∷ []))) (λ e. s)
-
   -- A number below the bound that passes, with so many before it.
   abbrev Found : ℕ → ℕ → Type 0
   Found size k = (p : ℕ) × (p < size) × (t p ≡ true) × (length (select t p) ≡ k)
@@ -55,9 +40,9 @@ module _ (t : ℕ → Bool) where
     -- It stops before a number that passes, with as many behind it as fit: these are handed over, and that number is the next.
     pub stops : (p : ℕ) → p < size → t p ≡ true → length (select t p) ≡ fit → (take fit (select t size) ≡ select t p) × (getD (select t size) fit size ≡ p)
     stops p h e l =
-        let s = split (suc p) size h in
-        let whole : select t size ≡ select t p ++ (p ∷ s .0) = s .1 ∙ ap (λ (z : List ℕ). z ++ s .0) (select-on t p e) ∙ append-snoc (select t p) p (s .0) in
-        (rw whole (take-at (select t p) (p ∷ s .0) fit l), rw whole (getD-at (select t p) p (s .0) size fit l))
+        let rest = select (λ x. leb (suc p) x && t x) size in
+        let whole : select t size ≡ select t p ++ (p ∷ rest) = select-split t (suc p) size h ∙ ap (λ (z : List ℕ). z ++ rest) (select-on t p e) ∙ append-snoc (select t p) p rest in
+        (rw whole (take-at (select t p) (p ∷ rest) fit l), rw whole (getD-at (select t p) p rest size fit l))
 
     -- Where all fit, all are handed over, and the bound is what is returned.
     pub ends : length (select t size) ≤ fit → (take fit (select t size) ≡ select t size) × (getD (select t size) fit size ≡ size)
@@ -68,6 +53,9 @@ module _ (t : ℕ → Bool) where
       pub handed : take fit (select t size) ≡ select t next
       pub few : length (select t next) ≤ fit
       pub at : (next ≡ size) ⊎ ((next < size) × (t next ≡ true) × (length (select t next) ≡ fit))
+
+    pub stop-within : {next : ℕ} → ListingStop next → next ≤ size
+    stop-within s = elim (s .at) [ inl e ↦ omega arith | inr h ↦ omega (arith, h .0) ]
 
     pub listing-stop : ListingStop (getD (select t size) fit size)
     listing-stop = go (decLe (length (select t size)) fit)

@@ -1,14 +1,14 @@
 -- Laws of specs.Finite: tests over all numbers below a bound, the search for the least, members of a list and of a selection, lists joined. Read next: Xor.
 use mathlib.Core.Path.{_≡_, refl, sym, ap, _∙_, subst}
-use mathlib.Core.Bool.{Bool, true, false, not, cond}
+use mathlib.Core.Bool.{Bool, true, false, not, cond, _&&_}
 use mathlib.Core.Logic.{_⊎_, inl, inr, _↔_}
-use mathlib.Core.List.{List, [], _∷_, _++_, map, flatMap, map-append, append-assoc}
+use mathlib.Core.List.{List, [], _∷_, _++_, map, flatMap, map-append, append-nil, append-assoc}
 use Prim.Native.Nat.{ℕ, zero, suc, _+_, _≤_, _<_}
 use native.Mathlib.Nat.{le-refl, lt-of-not-le, eq-or-lt-of-le, le-of-suc-le-suc, suc-inj, not-suc-le-zero, lt-suc-self}
 use native.Mathlib.Decide.{decLe, ℕ-discrete}
 use native.Mathlib.Omega.{arith}
-use borrow.Author.Tests.{not-true, not-false, eqb-true, eq-eqb}
-use lib.Dec.{eqb}
+use borrow.Author.Tests.{not-true, not-false, eqb-true, eq-eqb, le-leb, lt-leb}
+use lib.Dec.{eqb, leb}
 use lib.ListN.{length, getD, drop, take, length-append}
 use Rattle.gf2.specs.Finite.{Mem, holds, Ordered, Rising, all, select}
 use Rattle.gf2.proofs.Logic.{clash, same, and-l, and-r, and-i, or-l, or-r, or-cases, cond-cases}
@@ -198,6 +198,25 @@ pub select-none : (f : ℕ → Bool) (k : ℕ) → ((x : ℕ) → x < k → f x 
 unfolding select
 select-none f zero h = refl
 select-none f (suc k) h = rw (h k (lt-suc-self k)) (select-none f k (λ x l. h x (omega arith)))
+
+-- Those below a smaller bound, and those from it on.
+pub select-split : (f : ℕ → Bool) (j k : ℕ) → j ≤ k → select f k ≡ select f j ++ select (λ x. leb j x && f x) k
+unfolding select
+select-split f j zero h = let e : j ≡ 0 = omega arith in rw e
+select-split f j (suc k) h = go (ℕ-discrete j (suc k)) (select-split f j k)
+  where
+    from : ℕ → Bool
+    from x = leb j x && f x
+
+    more : (b : Bool) → select f k ≡ select f j ++ select from k → cond b (select f k ++ (k ∷ [])) (select f k) ≡ select f j ++ cond b (select from k ++ (k ∷ [])) (select from k)
+    more true i = ap (λ l. l ++ (k ∷ [])) i ∙ append-assoc (select f j) (select from k) (k ∷ [])
+    more false i = i
+
+    go : Dec (j ≡ suc k) → (j ≤ k → select f k ≡ select f j ++ select from k) → select f (suc k) ≡ select f j ++ select from (suc k)
+    go (yes e) i =
+        ap (select f) (sym e) ∙ sym (append-nil (select f j))
+        ∙ ap (λ l. select f j ++ l) (sym (select-none from (suc k) (λ x q. rw (lt-leb j x (omega arith)))))
+    go (no n) i = rw (le-leb j k (omega (arith, n))) (more (f k) (i (omega (arith, n))))
 
 pub select-length : (f : ℕ → Bool) (k : ℕ) → length (select f k) ≤ k
 unfolding select

@@ -109,3 +109,7 @@ beq-eq false false e = refl
 pub eq-beq : (a b : Bool) → a ≡ b → Bool·beq a b ≡ true
 eq-beq true b e = rw (← e)
 eq-beq false b e = rw (← e)
+
+pub beq-true : (a : Bool) → Bool·beq true a ≡ a
+beq-true true = refl
+beq-true false = refl

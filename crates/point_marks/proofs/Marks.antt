@@ -22,11 +22,6 @@ use Rattle.stored.proofs.Points.{points-mem}
 use Rattle.stored.proofs.Accepting.{stored-valid}
 use Rattle.point_marks.specs.Marks.{offMark, onMark, freeMark, recordMark, markIn, MarksOf}
 
--- A record is of an on point.
-pub true-is : (isOn : Bool) → Bool·beq true isOn ≡ isOn
-true-is true = refl
-true-is false = refl
-
 -- ---- records put into an array
 
 -- Each record puts the mark of its point into the array.

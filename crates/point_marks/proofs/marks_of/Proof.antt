@@ -6,13 +6,14 @@ use native.Mathlib.Omega.{arith}
 use borrow.Author.Needs.{needs}
 use lib.Pow.{pow-mono}
 use lib.ListN.{length, drop, getD, replicate, drop-of-length-le, length-set, List·getD-map}
+use Rattle.gf2.proofs.Logic.{beq-true}
 use Rattle.gf2.proofs.Finite.{getD-mem}
 use Rattle.table.specs.Flags.{maxPoints}
 use Rattle.stored.specs.Marks.{Mark, noMark, marks}
 use Rattle.stored.specs.Stored.{LaidOut}
 use Rattle.stored.proofs.Accepting.{stored-laid, stored-valid}
 use Rattle.point_marks.specs.Marks.{offMark}
-use Rattle.point_marks.proofs.Marks.{true-is, putMarks, put-next, marks-at}
+use Rattle.point_marks.proofs.Marks.{putMarks, put-next, marks-at}
 use Rattle.point_marks.proofs.marks_of.Statement.{statement}
 use Rattle.point_marks.proofs.marks_of.Tie as tie
 
@@ -71,7 +72,7 @@ loop-again c =
     let f = c .before .before in
     let bytes = f .before .before .before .before .before .before .args .bytes .now in
     let loop = f .before .before .before .loop in
-    let on : c .before .is-marked .result ≡ getD (marks bytes) (loop .i) noMark .isOn = c .before .is-marked .ensures ∙ true-is (getD (marks bytes) (loop .i) noMark .isOn) in (
+    let on : c .before .is-marked .result ≡ getD (marks bytes) (loop .i) noMark .isOn = c .before .is-marked .ensures ∙ beq-true (getD (marks bytes) (loop .i) noMark .isOn) in (
       omega arith,
       loop .inv .1,
       simp length-set (loop .inv .2),
