@@ -1,5 +1,5 @@
 -- Laws of specs.Finite: tests over all numbers below a bound, the search for the least, members of a list and of a selection, lists joined. Read next: Xor.
-use mathlib.Core.Path.{_≡_, refl, sym, ap, _∙_, subst}
+use mathlib.Core.Path.{_≡_, refl, sym, ap, ap₂, _∙_, subst}
 use mathlib.Core.Bool.{Bool, true, false, not, cond, _&&_}
 use mathlib.Core.Logic.{_⊎_, inl, inr, _↔_}
 use mathlib.Core.List.{List, [], _∷_, _++_, map, flatMap, map-append, append-nil, append-assoc}
@@ -88,6 +88,11 @@ map-mem f (b ∷ bs) y (inr m) = let h = map-mem f bs y m in (h .0, inr (h .1), 
 pub mem-map : {A B : Type 0} (f : A → B) (bs : List A) (x : A) → Mem x bs → Mem (f x) (map f bs)
 mem-map f (b ∷ bs) x (inl e) = inl (ap f e)
 mem-map f (b ∷ bs) x (inr m) = inr (mem-map f bs x m)
+
+-- Functions that agree on the members of a list give the same list.
+pub map-ext : {A B : Type 0} (f g : A → B) (l : List A) → ((x : A) → Mem x l → f x ≡ g x) → map f l ≡ map g l
+map-ext f g [] h = refl
+map-ext f g (x ∷ l) h = ap₂ _∷_ (h x (inl refl)) (map-ext f g l (λ y m. h y (inr m)))
 
 pub getD-mem : {A : Type 0} (l : List A) (i : ℕ) (d : A) → i < length l → Mem (getD l i d) l
 getD-mem [] i d h = absurd (omega arith)

@@ -2,5 +2,6 @@
 -- cite first: `kept-all`, `projected-projection` (Masks), `least-reduced` (Steps), `points-kept`, `completed-vectors`, `completed-spans`,
 -- `completed-restriction` (Restrictions).
 pub mod Masks
+pub mod Dropping
 pub mod Steps
 pub mod Restrictions

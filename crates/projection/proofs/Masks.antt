@@ -1,22 +1,22 @@
 -- Laws of specs.Masks: by the lead mask of a reduced basis, the points kept are the restriction and the points projected are the projection;
--- by the mask 0 all points of the function are kept as they are. Read next: Steps.
+-- with its places turned over, what was set is clear; by the mask 0 all points of the function are kept as they are. Read next: Dropping.
 use mathlib.Core.Path.{_≡_, refl, sym, ap, ap₂, _∙_}
-use mathlib.Core.Bool.{Bool, true, not, cond, _&&_}
+use mathlib.Core.Bool.{Bool, true, not, cond, _&&_, Bool·not-not}
 use mathlib.Core.Logic.{inl, inr}
 use mathlib.Core.List.{List, [], _∷_, map}
-use Prim.Native.Nat.{ℕ, zero, suc, _*_, _%_, _/_, _^_, _≤_, _<_}
+use Prim.Native.Nat.{ℕ, zero, suc, _-_, _*_, _%_, _/_, _^_, _≤_, _<_}
 use native.Mathlib.Nat.{add-comm, zero-mul, one-mul, mod-eq-of-lt}
 use native.Mathlib.Numerals.{add-one}
 use native.Mathlib.Omega.{arith}
 use lib.Dec.{eqb}
 use lib.ListN.{length, length-map}
 use lib.Pow.{mod-pow-add}
-use Rattle.gf2.specs.Bits.{bit}
+use Rattle.gf2.specs.Bits.{_⊕_, bit}
 use Rattle.gf2.specs.Finite.{Mem, select}
 use Rattle.gf2.specs.Basis.{Reduced, isLead, leadMask, placesAt, canonicalPlaces, noncanonicalPlaces}
 use Rattle.gf2.proofs.Logic.{and-true}
 use Rattle.gf2.proofs.Finite.{select-ext, select-mem, select-length}
-use Rattle.gf2.proofs.Xor.{bit-zero, bit-is}
+use Rattle.gf2.proofs.Xor.{bit-zero, bit-is, bit-turned}
 use Rattle.gf2.proofs.Variables.{bit-leadMask, places-ext}
 use Rattle.space.specs.Restriction.{project, clean, restriction}
 use Rattle.space.specs.Affine.{projection}
@@ -53,6 +53,12 @@ kept-restriction n bs r f =
 pub projected-projection : (n : ℕ) (bs : List ℕ) → Reduced bs → (ps : List ℕ) → projected n (leadMask bs) ps ≡ projection n bs ps
 unfolding projected projection
 projected-projection n bs r ps = ap (λ (ks : List ℕ). map (project ks) ps) (set-canonical n bs r)
+
+-- ---- by the mask turned over
+
+-- XOR with all places turns the bits of the mask over, so what was set is clear.
+pub turned-set : (n mask : ℕ) → placesClear n (mask ⊕ (2 ^ n - 1)) ≡ placesSet n mask
+turned-set n mask = places-ext (λ k. not (bit k (mask ⊕ (2 ^ n - 1)))) (λ k. bit k mask) n (λ k h. ap not (bit-turned n k mask h) ∙ Bool·not-not (bit k mask))
 
 -- ---- by the mask 0
 

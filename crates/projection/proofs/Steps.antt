@@ -1,39 +1,21 @@
--- The definitions as the loops of this crate meet them: one bit, one point or one vector more. Read next: Restrictions.
+-- The smallest affine space as the functions of this crate and their callers meet it. Read next: Restrictions.
 use mathlib.Core.Path.{_≡_, sym, ap, _∙_, subst}
-use mathlib.Core.Bool.{Bool}
 use mathlib.Core.Logic.{_↔_}
 use mathlib.Core.List.{List}
-use Prim.Native.Nat.{ℕ, _+_, _*_, _^_, _≤_, _<_}
-use native.Mathlib.Nat.{le-mul-of-pos-right}
-use native.Mathlib.Omega.{arith}
+use Prim.Native.Nat.{ℕ, _^_, _<_}
 use lib.ListN.{length, getD}
-use lib.Pow.{pow-pos, pow-mono}
 use Rattle.gf2.specs.Limits.{maxVariables}
 use Rattle.gf2.specs.Finite.{Mem}
 use Rattle.gf2.specs.Span.{Span}
-use Rattle.gf2.specs.Basis.{reduce, placesAt}
+use Rattle.gf2.specs.Basis.{reduce}
 use Rattle.gf2.proofs.Insert.{inserts-span}
-use Rattle.gf2.proofs.Variables.{places-count}
 use Rattle.basis.specs.declared.Basis.{Basis}
 use Rattle.basis.specs.Reduced.{vectorsOf, basisOf, Built}
 use Rattle.basis.proofs.Values.{vectors-back, built}
-use Rattle.space.specs.Restriction.{project}
 use Rattle.space.specs.Affine.{directions, leastPoint}
-use Rattle.space.proofs.Restriction.{project-below}
 use Rattle.space.proofs.Affine.{directions-reduced, directions-below}
 use Rattle.space.proofs.Steps.{directions-all, leastPoint-is}
 use Rattle.projection.specs.Masks.{differences}
-
--- ---- bits
-
--- What is found of a point of n variables is such a point itself.
-pub gathered-below : (q : ℕ → Bool) (n m w found l rest : ℕ) → n ≤ m → found * 2 ^ l + rest ≡ project (placesAt n q) w → found < 2 ^ m
-gathered-below q n m w found l rest h e =
-    let ks = placesAt n q in
-    let few : length ks ≤ m = omega (arith, places-count q n) in
-    omega (arith, le-mul-of-pos-right found (pow-pos l), project-below ks w, pow-mono few)
-
--- ---- the smallest affine space
 
 -- The basis of the directions is one, and spans the points XOR the first.
 pub directions-built : (ps : List ℕ) → 0 < length ps → ((p : ℕ) → Mem p ps → p < 2 ^ maxVariables) → Built (basisOf (directions ps)) (directions ps) (Span (differences ps))

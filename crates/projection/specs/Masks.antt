@@ -2,7 +2,7 @@
 -- basis is `kept-restriction` and `projected-projection`. Read next: crate `product`.
 use mathlib.Core.Bool.{Bool, not, _&&_}
 use mathlib.Core.List.{List, map}
-use Prim.Native.Nat.{ℕ, _^_}
+use Prim.Native.Nat.{ℕ, _+_, _*_, _/_, _%_, _^_}
 use lib.Bits.{bitAnd}
 use lib.Dec.{eqb}
 use lib.ListN.{getD}
@@ -17,6 +17,11 @@ placesSet n mask = placesAt n (λ k. bit k mask)
 
 abbrev pub placesClear : ℕ → ℕ → List ℕ
 placesClear n mask = placesAt n (λ k. not (bit k mask))
+
+-- The point w without its bit at place k: the bits above it come down by one place. That the others are as they were is `bit-drop-below` and
+-- `bit-drop-above`.
+unfoldable pub dropPlace : ℕ → ℕ → ℕ
+dropPlace k w = w / 2 / 2 ^ k * 2 ^ k + w % 2 ^ k
 
 -- The point w is on, and all canonical variables, which are the places set in the lead mask, are 0 in it.
 unfoldable pub isKept : ℕ → (ℕ → Bool) → ℕ → Bool

@@ -5,7 +5,7 @@ use basis::ShortList;
 use table::MAX_POINTS;
 ghost use mathlib.Core.Path.{_≡_};
 ghost use mathlib.Core.Bool.{true, false, cond};
-ghost use Prim.Native.Nat.{_+_, _*_, _≤_, _<_, _^_};
+ghost use Prim.Native.Nat.{ℕ, _+_, _≤_, _<_, _^_};
 ghost use lib.ListN.{length, set};
 ghost use Rattle.gf2.specs.Limits.{maxVariables};
 ghost use Rattle.gf2.specs.Bits.{bit, lead};
@@ -17,43 +17,30 @@ ghost use Rattle.table.specs.Table.{outside};
 ghost use Rattle.space.specs.Restriction.{project, equation, equations};
 ghost use Rattle.space.specs.Affine.{directions};
 ghost use Rattle.space.specs.Witness.{flagged};
-ghost use Rattle.projection.specs.Masks.{placesSet, placesClear, isKept, kept, projected, differences};
+ghost use Rattle.projection.specs.Masks.{placesClear, dropPlace, isKept, kept, projected, differences};
 
-// A number with one binary digit more at its end.
-fn with_digit(found: u16, one: bool) -> u16
-    requires { ⌜ found < 2 ^ maxVariables ⌝ }
-    ensures { λ r. ⌜ r ≡ 2 * found + cond one 1 0 ⌝ }
+// The point without its bit at the place: the bits above it come down by one place.
+fn drop_place(place: u32, w: u16) -> u16
+    requires { ⌜ place < 16 ⌝ }
+    ensures { λ r. ⌜ r ≡ dropPlace place w ⌝ }
 {
-    if one { 2 * found + 1 } else { 2 * found }
+    let half = w / 2;
+    (half >> place << place) + w % (1 << place)
 }
 
-// The bits of w at the places below n that are set in the mask, the highest first, as a number.
-pub fn project(mask: u16, n: usize, w: u16) -> u16
-    requires { ⌜ n ≤ maxVariables ⌝ }
-    ensures { λ r. ⌜ r ≡ project (placesSet n mask) w ⌝ }
+// The point with the places set in the mask dropped, order of the others kept. Only the places that are dropped are visited: the highest first, which
+// its count of leading zeros finds.
+fn drop_places(mask: u16, w: u16) -> u16
+    ensures { λ r. ⌜ ((n : ℕ) → w < 2 ^ n → r ≡ project (placesClear n mask) w) ⌝ }
 {
-    let mut found: u16 = 0;
-    let mut k = n;
-    while k > 0 {
-        k -= 1;
-        if gf2::bit(k as u32, mask) {
-            found = with_digit(found, gf2::bit(k as u32, w));
-        }
+    let mut left = mask;
+    let mut point = w;
+    while left != 0 {
+        let place = gf2::lead(left);
+        point = drop_place(place, point);
+        left = left ^ (1 << place);
     }
-    found
-}
-
-// The same at the places below n that are clear in the mask. Where all are, that is the point itself, with no walk over its bits.
-fn project_clear(mask: u16, n: usize, w: u16) -> u16
-    requires { ⌜ n ≤ maxVariables ⌝ }
-    requires { ⌜ w < 2 ^ n ⌝ }
-    ensures { λ r. ⌜ r ≡ project (placesClear n mask) w ⌝ }
-{
-    if mask == 0 {
-        return w;
-    }
-    let all = table::point_count(n) - 1;
-    project(mask ^ all, n, w)
+    point
 }
 
 // The lead bit of the basis vector b where b has the variable at the place, and 0 where not.
@@ -149,7 +136,7 @@ fn write_point(
     if !is_kept(flags, leads, w) {
         return count;
     }
-    room[count] = project_clear(leads, n, w);
+    room[count] = drop_places(leads, w);
     count + 1
 }
 
@@ -186,15 +173,18 @@ pub fn directions(on: &[u16]) -> Basis
     basis
 }
 
-// The points with the places clear in the lead mask dropped, in their order, at the front of the room.
+// The points of n variables with the places clear in the lead mask dropped, in their order, at the front of the room.
 pub fn write_projection(on: &[u16], leads: u16, n: usize, room: &mut [u16])
     requires { ⌜ n ≤ maxVariables ⌝ }
+    requires { ⌜ outside n (now on) ≡ false ⌝ }
     requires { ⌜ length (now on) ≤ length (now room) ⌝ }
     ensures { λ _. ⌜ now (room .exit) ≡ front (projected n leads (now (on .entry))) (now (room .entry)) ⌝ }
 {
+    let all = table::point_count(n) - 1;
+    let others = leads ^ all;
     let mut i = 0;
     while i < on.len() {
-        room[i] = project(leads, n, on[i]);
+        room[i] = drop_places(others, on[i]);
         i += 1;
     }
 }

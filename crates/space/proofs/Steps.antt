@@ -4,8 +4,7 @@ use mathlib.Core.Path.{_≡_, refl, sym, ap, _∙_, subst}
 use mathlib.Core.Bool.{Bool, true, false, cond, _&&_}
 use mathlib.Core.Logic.{_≢_}
 use mathlib.Core.List.{List, [], _∷_, _++_, map}
-use Prim.Native.Nat.{ℕ, suc, _+_, _*_, _^_, _<_}
-use native.Mathlib.Nat.{add-mul, mul-assoc, one-mul, zero-mul, pow-suc}
+use Prim.Native.Nat.{ℕ, suc, _+_, _^_, _<_}
 use native.Mathlib.Omega.{arith}
 use lib.ListN.{length, take, getD}
 use lib.Seq.{take-suc}
@@ -31,41 +30,6 @@ use Rattle.gf2.proofs.Finite.{map-take}
 pub project-cons : (k : ℕ) (ks : List ℕ) (w : ℕ) → project (k ∷ ks) w ≡ cond (bit k w) (2 ^ length ks) 0 + project ks w
 unfolding project
 project-cons k ks w = number-step (λ j. bit j w) k ks
-
--- From the highest bit down: the bits found, above those still to come.
-shift : (t : Bool) (a p x : ℕ) → a * (p * 2) + (cond t p 0 + x) ≡ (2 * a + cond t 1 0) * p + x
-shift true a p x = omega (arith, mul-assoc a p 2, mul-assoc 2 a p, add-mul (2 * a) 1 p, one-mul p)
-shift false a p x = omega (arith, mul-assoc a p 2, mul-assoc 2 a p, add-mul (2 * a) 0 p, zero-mul p)
-
-pub number-front : {A : Type 0} (f : A → Bool) (a : A) (l : List A) (found : ℕ)
-    → found * 2 ^ length (a ∷ l) + number (map f (a ∷ l)) ≡ (2 * found + cond (f a) 1 0) * 2 ^ length l + number (map f l)
-number-front f a l found =
-    ap (λ (z : ℕ). found * 2 ^ suc (length l) + z) (number-step f a l)
-    ∙ rw (pow-suc 2 (length l)) (shift (f a) found (2 ^ length l) (number (map f l)))
-
--- The same over the places that pass a test.
-pub gather-step : (q f : ℕ → Bool) (j found : ℕ) → found * 2 ^ length (placesAt (suc j) q) + number (map f (placesAt (suc j) q))
-    ≡ cond (q j) (2 * found + cond (f j) 1 0) found * 2 ^ length (placesAt j q) + number (map f (placesAt j q))
-unfolding placesAt
-gather-step q f j found = go (q j)
-  where
-    go : (t : Bool) → found * 2 ^ length (cond t (j ∷ placesAt j q) (placesAt j q)) + number (map f (cond t (j ∷ placesAt j q) (placesAt j q)))
-        ≡ cond t (2 * found + cond (f j) 1 0) found * 2 ^ length (placesAt j q) + number (map f (placesAt j q))
-    go true = number-front f j (placesAt j q) found
-    go false = refl
-
-pub gather-none : (q f : ℕ → Bool) (found : ℕ) → found * 2 ^ length (placesAt 0 q) + number (map f (placesAt 0 q)) ≡ found
-unfolding placesAt number
-gather-none q f found = omega arith
-
-pub project-gather : (q : ℕ → Bool) (j w found : ℕ) → found * 2 ^ length (placesAt (suc j) q) + project (placesAt (suc j) q) w
-    ≡ cond (q j) (2 * found + cond (bit j w) 1 0) found * 2 ^ length (placesAt j q) + project (placesAt j q) w
-unfolding project
-project-gather q j w found = gather-step q (λ k. bit k w) j found
-
-pub project-gathered : (q : ℕ → Bool) (w found : ℕ) → found * 2 ^ length (placesAt 0 q) + project (placesAt 0 q) w ≡ found
-unfolding project
-project-gathered q w found = gather-none q (λ k. bit k w) found
 
 -- From the lowest place up: the kept bits below a place, and how many they are.
 pub project-none : (q : ℕ → Bool) (w : ℕ) → project (placesAt 0 q) w ≡ 0

@@ -9,7 +9,7 @@ use borrow.Author.Needs.{needs}
 use Rattle.table.specs.Decision.{front}
 use Rattle.table.specs.Refusal.{firstFault}
 use Rattle.table.specs.Table.{Accepted, tableFault}
-use Rattle.table.proofs.Table.{accepted, on-flags}
+use Rattle.table.proofs.Table.{accepted, not-outside, on-flags}
 use Rattle.analysis.specs.Affine.{onTests}
 use Rattle.analysis.proofs.AffineSpaces.{on-refused, on-empty, on-passed, projected-all, affine-numbers, affine-projected, affine-ways}
 use Rattle.analysis.proofs.affine.Statement.{statement}
@@ -94,7 +94,9 @@ abbrev directed : tie.After-leads → tie.After-directions
 directed c = c .before .before .before
 
 write-projection-requires : tie.Need-write-projection-requires
-write-projection-requires c κs = (table (directed (c .before) .before .before .before) .few, omega arith)
+write-projection-requires c κs =
+    let t = directed (c .before) .before .before .before in
+    (table t .few, (not-outside (n t) (on t) (table t .on-below), omega arith))
 
 same-length : tie.Need-same-length
 same-length c = search needs

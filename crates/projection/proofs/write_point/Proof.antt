@@ -23,8 +23,8 @@ returns c =
 known : {r t : Bool} → r ≡ t → not r ≡ false → t ≡ true
 known {r} e n = sym e ∙ not-false r n
 
-project-clear-requires : tie.Need-project-clear-requires
-project-clear-requires c κs = search needs
+drop-places-requires : tie.Need-drop-places-requires
+drop-places-requires c κs = search needs
 
 mul-room : tie.Need-mul-room
 mul-room c = omega (arith, c .before .before .before .before .pre .1 .1 (known (c .before .before .is-kept .ensures) (c .before .if1 .left)))
@@ -39,7 +39,9 @@ same-length : tie.Need-same-length
 same-length c = search needs
 
 returns-2 : tie.Need-returns-2
-returns-2 c = rw (c .project-clear .ensures, known (c .before .before .is-kept .ensures) (c .before .if1 .left)) (refl, refl)
+returns-2 c =
+    let s = c .before .before .before .before in
+    rw (c .drop-places .ensures (s .args .n) (s .pre .1 .0), known (c .before .before .is-kept .ensures) (c .before .if1 .left)) (refl, refl)
 
 pub write-point-spec : {M : Type 1} → statement M
 write-point-spec =
@@ -47,7 +49,7 @@ write-point-spec =
     (tie.spec
     is-kept-requires
     returns
-    project-clear-requires
+    drop-places-requires
     mul-room
     slice-write-room
     add-result

@@ -10,7 +10,7 @@ mod measure;
 mod plain;
 
 use glospruma::MAX_POINTS;
-use library::{Analysis, Completion, Listed};
+use library::{Affine, Analysis, Completion, Listed};
 use measure::compare;
 use reference::generate::{self, Generator};
 use reference::table::Table;
@@ -35,6 +35,24 @@ fn random_tables(on_percent: usize, free_percent: usize) -> Vec<Table> {
     let tables = 0..RANDOM_TABLES;
     tables
         .map(|_| generate::random_table(&mut generator, VARIABLES, on_percent, free_percent))
+        .collect()
+}
+
+/// Complete functions closed under a random space of this dimension.
+fn closed_tables(dimension: usize) -> Vec<Table> {
+    let mut generator = Generator::new(1);
+    let tables = 0..RANDOM_TABLES;
+    tables
+        .map(|_| generate::closed_table(&mut generator, VARIABLES, dimension, 50))
+        .collect()
+}
+
+/// Tables with about half of the points on whose number of set bits is even.
+fn even_tables() -> Vec<Table> {
+    let is_even = |point: &u16| point.count_ones() % 2 == 0;
+    let tables = random_tables(50, 0).into_iter();
+    tables
+        .map(|(n, on, _)| (n, on.into_iter().filter(is_even).collect(), Vec::new()))
         .collect()
 }
 
@@ -173,6 +191,25 @@ fn main() {
         library::analyse,
         plain::analyse,
     );
+    for dimension in [1, 3] {
+        point_call::<Analysis>(
+            &format!("analyse, n 12, random of degree {dimension}"),
+            &closed_tables(dimension),
+            library::analyse,
+            plain::analyse,
+        );
+    }
+    for (title, tables) in [
+        ("affine, n 12, random", random_tables(50, 0)),
+        ("affine, n 12, random, dimension 11", even_tables()),
+    ] {
+        point_call::<Affine>(
+            title,
+            &tables,
+            |n, on, _, room| library::affine(n, on, room),
+            |n, on, _, room| plain::affine(n, on, room),
+        );
+    }
     point_call::<Completion>(
         "complete, n 12, random with free points",
         &with_free,

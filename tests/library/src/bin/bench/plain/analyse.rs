@@ -3,6 +3,7 @@
 
 use super::basis::{lead, leads};
 use super::complete::{completed, Completed};
+use super::places::without;
 use super::table::{write, Flags};
 use library::{Analysis, Basis, ShortList};
 
@@ -33,21 +34,6 @@ pub fn variables(n: usize, basis: &Basis, leads: u16) -> (ShortList, ShortList) 
     (canonical, equations)
 }
 
-/// The bits of a point that aren't leads, the others dropped; with no lead, the
-/// point itself.
-fn without_leads(n: usize, leads: u16, point: u16) -> u16 {
-    if leads == 0 {
-        return point;
-    }
-    let mut kept = 0;
-    for place in (0..n).rev() {
-        if leads >> place & 1 == 0 {
-            kept = kept << 1 | point >> place & 1;
-        }
-    }
-    kept
-}
-
 /// The points of the restriction, rising.
 pub fn restriction<'a>(
     n: usize,
@@ -56,7 +42,7 @@ pub fn restriction<'a>(
 ) -> impl Iterator<Item = u16> + Clone + 'a {
     let points = 0..1u16 << n;
     let chosen = points.filter(move |&point| point & leads == 0 && flags[usize::from(point)]);
-    chosen.map(move |point| without_leads(n, leads, point))
+    chosen.map(move |point| without(leads, point))
 }
 
 fn try_analyse(n: usize, on: &[u16], free: &[u16], room: &mut [u16]) -> Result<Analysis, u8> {

@@ -13,7 +13,7 @@ pub fn full(n: usize) -> Basis {
 }
 
 /// The vector with each lead bit of the basis cleared; 0 if it is in the span.
-fn reduce(basis: &Basis, vector: u16) -> u16 {
+pub fn reduce(basis: &Basis, vector: u16) -> u16 {
     let mut rest = vector;
     for &entry in &basis.vectors[..basis.len] {
         rest = rest.min(rest ^ entry);

@@ -7,6 +7,7 @@
 //! Follows document 01, sections "Points and spaces", "Primes", "The written form"
 //! and "The printed report", and document 02.
 
+mod affine;
 mod analyse;
 mod bases;
 mod basis;
@@ -15,6 +16,7 @@ mod compare;
 mod complete;
 mod linear_space;
 mod list_primes;
+mod places;
 mod products;
 mod read_table;
 mod report;
@@ -23,6 +25,7 @@ mod table;
 mod text;
 mod write_form;
 
+pub use affine::affine;
 pub use analyse::analyse;
 pub use compare::compare;
 pub use complete::complete;
