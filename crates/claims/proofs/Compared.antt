@@ -1,5 +1,5 @@
 -- The claim about two tables side by side holds of every two accepted tables of one number of variables, every first point of at most 2 ^ n, and every
--- list of calls that goes on from there. Read next: Examples.
+-- list of calls that goes on from there. Read next: Bits.
 use mathlib.Core.Path.{_≡_, refl, sym, ap, ap₂, _∙_, subst}
 use mathlib.Core.Bool.{Bool, true, false, cond}
 use mathlib.Core.Logic.{_⊎_, inl, inr, _≢_}

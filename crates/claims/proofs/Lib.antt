@@ -5,5 +5,6 @@ pub mod Reports
 pub mod Demand2
 pub mod Demand3
 pub mod Compared
+pub mod Bits
 pub mod Examples
 pub mod Rooms

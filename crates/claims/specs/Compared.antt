@@ -5,7 +5,7 @@
 -- It is a claim about the running call. The contract of `glospruma_compare` (crates/glospruma/src/lib.rt) says that the numbers it returns are
 -- `compareAnswer` of its arguments and that its room holds `compareAfter` of them, which are all that is spoken of here. A table is accepted exactly
 -- where `glospruma_read_table` reads it into rooms that are long enough, and `storedOn` and `storedFree` are the lists that it hands over
--- (`read-exactly`). Read next: Rooms.
+-- (`read-exactly`). Read next: Bits.
 use mathlib.Core.Path.{_≡_}
 use mathlib.Core.Bool.{Bool, true, cond, _&&_}
 use mathlib.Core.Logic.{_⊎_, _≢_, _↔_}

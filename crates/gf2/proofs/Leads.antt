@@ -72,6 +72,13 @@ lead-highest v p =
       above = λ j h. bit-big j v (omega (arith, lead-high (lead v) v e, pow-mono h));
     }
 
+-- A number has one highest set bit.
+highest-le : (j k v : ℕ) → Highest j v → Highest k v → j ≤ k
+highest-le j k v p q = elim (decLe j k) [ yes h ↦ h | no h ↦ clash (p .set) (q .above j (lt-of-not-le h)) ]
+
+pub highest-unique : (j k v : ℕ) → Highest j v → Highest k v → j ≡ k
+highest-unique j k v p q = omega (arith, highest-le j k v p q, highest-le k j v q p)
+
 -- In a word of w digits the leading zeros and the digits from the lead down are all there is (document 02, No. 2).
 pub lead-zeros : (w v : ℕ) → 0 < v → v < 2 ^ w → leadingZeros w v + suc (lead v) ≡ w
 lead-zeros w v p h =

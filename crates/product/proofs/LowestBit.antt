@@ -19,7 +19,7 @@ use Rattle.product.specs.Lowest.{Lowest, evenHalvings, lowest}
 lowest-le : (j k m : ℕ) → Lowest j m → Lowest k m → j ≤ k
 lowest-le j k m p q = elim (decLe j k) [ yes h ↦ h | no h ↦ clash (q .set) (p .below k (lt-of-not-le h)) ]
 
-lowest-unique : (j k m : ℕ) → Lowest j m → Lowest k m → j ≡ k
+pub lowest-unique : (j k m : ℕ) → Lowest j m → Lowest k m → j ≡ k
 lowest-unique j k m p q = omega (arith, lowest-le j k m p q, lowest-le k j m q p)
 
 -- A mask that has a lowest set bit is not 0.

@@ -2,7 +2,7 @@
 //! name and its type, and records with their fields; in Rattle, functions,
 //! constants, structs and enums, and those of a type as `Type::name`.
 
-use std::collections::BTreeSet;
+use std::collections::{BTreeMap, BTreeSet};
 use std::fs;
 use std::path::{Path, PathBuf};
 
@@ -60,6 +60,21 @@ pub fn comments_in(path: &str) -> Vec<String> {
         .flat_map(|text| {
             let lines = text.lines().map(str::trim_start).filter(is_comment);
             lines.map(str::to_string).collect::<Vec<String>>()
+        })
+        .collect()
+}
+
+/// The files of Rattle at or below a path of the repository, by their names from
+/// there on, with their texts.
+pub fn code_in(path: &str) -> BTreeMap<String, String> {
+    let folder = root().join(path);
+    let is_code = |file: &PathBuf| matches!(file.extension(), Some(end) if end == "rt");
+    let files = files_below(&folder).into_iter().filter(is_code);
+    files
+        .map(|file| {
+            let name = file.strip_prefix(&folder).expect("a file below it");
+            let text = fs::read_to_string(&file).expect("a text file");
+            (name.display().to_string(), text)
         })
         .collect()
 }

@@ -1,0 +1,38 @@
+//! Leads and parities are found by counts (document 02, No. 2), each in one
+//! function, of which crates/claims/specs/Bits.antt speaks: no other function of
+//! the crates counts zeros or ones, but for the test for a prime.
+
+use crate::names::code_in;
+
+/// The functions that count, with their files and the counts.
+const COUNTING: [(&str, &str, &str); 4] = [
+    ("gf2/src/lib.rt", "lead", "leading_zeros"),
+    ("gf2/src/lib.rt", "parity", "count_ones"),
+    ("masks/src/lib.rt", "is_prime", "count_ones"),
+    ("product/src/lib.rt", "lowest", "trailing_zeros"),
+];
+
+/// The functions of a file of Rattle that count zeros or ones, with the counts.
+fn counting(text: &str) -> Vec<(&str, &str)> {
+    let functions = text.split("fn ").skip(1);
+    let counts_of = |function| {
+        let (name, body): (&str, &str) = str::split_once(function, '(').expect("a name");
+        let counts = ["leading_zeros", "trailing_zeros", "count_ones"].into_iter();
+        let made = counts.filter(|count| body.contains(&format!("::{count}(")));
+        made.map(|count| (name, count)).collect::<Vec<_>>()
+    };
+    functions.flat_map(counts_of).collect()
+}
+
+#[test]
+fn no_other_function_counts() {
+    let code = code_in("crates");
+    let found: Vec<(&str, &str, &str)> = code
+        .iter()
+        .flat_map(|(file, text)| {
+            let functions = counting(text).into_iter();
+            functions.map(move |(name, count)| (file.as_str(), name, count))
+        })
+        .collect();
+    assert_eq!(found, COUNTING);
+}
