@@ -47,12 +47,12 @@ fn closed_tables(dimension: usize) -> Vec<Table> {
         .collect()
 }
 
-/// Tables with about half of the points on whose number of set bits is even.
-fn even_tables() -> Vec<Table> {
-    let is_even = |point: &u16| point.count_ones() % 2 == 0;
+/// Tables with about half of the points on whose number of set bits is odd.
+fn odd_tables() -> Vec<Table> {
+    let is_odd = |point: &u16| point.count_ones() % 2 == 1;
     let tables = random_tables(50, 0).into_iter();
     tables
-        .map(|(n, on, _)| (n, on.into_iter().filter(is_even).collect(), Vec::new()))
+        .map(|(n, on, _)| (n, on.into_iter().filter(is_odd).collect(), Vec::new()))
         .collect()
 }
 
@@ -201,7 +201,7 @@ fn main() {
     }
     for (title, tables) in [
         ("affine, n 12, random", random_tables(50, 0)),
-        ("affine, n 12, random, dimension 11", even_tables()),
+        ("affine, n 12, random, dimension 11", odd_tables()),
     ] {
         point_call::<Affine>(
             title,
