@@ -42,7 +42,7 @@ extern "C" {
 #endif
 
 /* The version of this header and of the library, as in CHANGELOG.md. */
-#define GLOSPRUMA_VERSION "0.3.0"
+#define GLOSPRUMA_VERSION "0.3.1"
 
 /* The largest number of variables, of points of a table, and of variables of a listing; the bytes of the longest stored table. */
 #define GLOSPRUMA_MAX_VARIABLES 12

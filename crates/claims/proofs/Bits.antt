@@ -1,5 +1,5 @@
--- The claim about leads and parities by counts holds: the laws of crates `gf2` and `product` in 16 bits, and the parity that is found from the lowest place
--- up is that of the places in any order. Read next: Examples.
+-- The claim about leads and parities by counts holds: the laws of crates `gf2` and `product` in 16 bits. That the common bits taken one by one have the
+-- parity of `odd` is shown here. Read next: Examples.
 use mathlib.Core.Path.{_≡_, refl, sym, ap, _∙_, subst}
 use mathlib.Core.Bool.{Bool, true, false, not, cond, Bool·beq}
 use mathlib.Core.Logic.{_↔_}
@@ -7,7 +7,7 @@ use mathlib.Core.List.{List}
 use Prim.Native.Nat.{ℕ, zero, suc, _/_, _^_, _<_}
 use native.Mathlib.Omega.{arith}
 use lib.Dec.{eqb}
-use Rattle.gf2.specs.Bits.{_⊻_, bit, indexOf, Highest, lead}
+use Rattle.gf2.specs.Bits.{_⊻_, bit, indexOf, Highest, halvings, lead}
 use Rattle.gf2.specs.Finite.{Mem}
 use Rattle.gf2.specs.Parity.{oddIn, odd}
 use Rattle.gf2.specs.Basis.{isLead, leadMask, canonicalPlaces, variablesAt}
@@ -17,14 +17,17 @@ use Rattle.gf2.proofs.Leads.{lead-highest, lead-zeros, highest-unique}
 use Rattle.gf2.proofs.Odd.{odd-ones, odd-width}
 use Rattle.gf2.proofs.Reduce.{reduced-pos}
 use Rattle.gf2.proofs.Variables.{isLead-at, bit-leadMask, places-mem, mem-places}
+use Rattle.gf2.proofs.lead.Reads as contract-lead
+use Rattle.gf2.proofs.parity.Reads as contract-parity
 use Rattle.basis.specs.declared.Basis.{Basis}
 use Rattle.basis.specs.Reduced.{vectorsOf, IsBasis}
 use Rattle.basis.proofs.Values.{short-listed}
-use Rattle.product.specs.Lowest.{lowest}
+use Rattle.product.specs.Lowest.{evenHalvings, lowest}
 use Rattle.product.specs.Product.{factor, factorAt}
 use Rattle.product.proofs.LowestBit.{lowest-is, lowest-zeros, lowest-unique}
+use Rattle.product.proofs.lowest.Reads as contract-lowest
 use Rattle.cubes.proofs.Counts.{mem-isLead}
-use Rattle.claims.specs.Bits.{common, parityBelow, LeadAt, LeadFound, LowestFound, BitsCounted}
+use Rattle.claims.specs.Bits.{common, parityBelow, LeadAt, LeadVariable, LeadFound, LowestFound, BitsCounted}
 
 -- ---- tried
 
@@ -32,6 +35,11 @@ use Rattle.claims.specs.Bits.{common, parityBelow, LeadAt, LeadFound, Lo
 parities : (parityBelow 16 12 8 ≡ true) × (parityBelow 16 12 14 ≡ false) × (parityBelow 16 11 15 ≡ true) × (parityBelow 16 11 4 ≡ false) × (parityBelow 16 32768 32769 ≡ true)
 unfolding parityBelow bit
 parities = (refl, refl, refl, refl, refl)
+
+-- What the contracts let through: of vector 6 the lead at place 2, of mask 12 the lowest bit at place 2, of mask 12 at point 8 an odd number of bits.
+returned : contract-lead.Learnt tt (6, tt) 2 (6, tt) × contract-lowest.Learnt tt (12, tt) 2 (12, tt) × contract-parity.Learnt tt (12, (8, tt)) true (12, (8, tt))
+unfolding lead halvings bit lowest evenHalvings odd oddIn
+returned = (refl, refl, refl)
 
 -- ---- a lead
 
@@ -69,7 +77,7 @@ lowest-first (suc k) mask point =
     ∙ swap last (common mask point 0) (parityBelow k (mask / 2) (point / 2))
     ∙ ap (λ (t : Bool). common mask point 0 ⊻ t) (sym (turn last (parityBelow k (mask / 2) (point / 2))))
 
--- So the common bits one by one have the parity of specs.Parity.
+-- So the common bits one by one have the parity of `oddIn`.
 singly : (k mask point : ℕ) → oddIn k mask point ≡ parityBelow k mask point
 unfolding oddIn parityBelow
 singly zero mask point = refl
@@ -103,16 +111,17 @@ module _ (basis : Basis) (s : IsBasis basis) where
   lead-mask : (k : ℕ) → (bit k (leadMask bs) ≡ true) ↔ LeadAt basis k
   lead-mask k = let e = bit-leadMask bs (s .reduced) k in (λ t. is-lead k .0 (sym e ∙ t), λ l. e ∙ is-lead k .1 l)
 
-  -- The variables by their index: places below n have different indices.
-  canonical-leads : (n k : ℕ) → k < n → Mem (indexOf n k) (variablesAt n (canonicalPlaces n bs)) ↔ LeadAt basis k
-  canonical-leads n k h = (there, λ l. mem-map (indexOf n) (canonicalPlaces n bs) k (mem-places (isLead bs) n k h (is-lead k .1 l)))
+  canonical-leads : (n i : ℕ) → Mem i (variablesAt n (canonicalPlaces n bs)) ↔ LeadVariable basis n i
+  canonical-leads n i = (there, back)
     where
-      there : Mem (indexOf n k) (variablesAt n (canonicalPlaces n bs)) → LeadAt basis k
+      there : Mem i (variablesAt n (canonicalPlaces n bs)) → LeadVariable basis n i
       there m =
-          let j = map-mem (indexOf n) (canonicalPlaces n bs) (indexOf n k) m in
+          let j = map-mem (indexOf n) (canonicalPlaces n bs) i m in
           let at = places-mem (isLead bs) n (j .0) (j .1) in
-          let e : j .0 ≡ k = omega (arith, j .2, at .0) in
-          subst (LeadAt basis) e (is-lead (j .0) .0 (at .1))
+          (j .0, at .0, j .2, is-lead (j .0) .0 (at .1))
+
+      back : LeadVariable basis n i → Mem i (variablesAt n (canonicalPlaces n bs))
+      back (k, h, e, l) = rw e (mem-map (indexOf n) (canonicalPlaces n bs) k (mem-places (isLead bs) n k h (is-lead k .1 l)))
 
 -- ---- the claim
 
@@ -126,7 +135,7 @@ bits-counted = record {
   leads = λ basis s. (s, λ mask e q k. subst (λ (m : ℕ). (bit k m ≡ true) ↔ LeadAt basis k) (sym q) (lead-mask basis s k));
   canonical = λ basis s n few. (
     (s, few),
-    λ found e q k h.
-        subst (λ (l : List ℕ). Mem (indexOf n k) l ↔ LeadAt basis k) (sym (short-listed found (variablesAt n (canonicalPlaces n (vectorsOf basis))) q)) (canonical-leads basis s n k h),
+    λ found e q i.
+        subst (λ (l : List ℕ). Mem i l ↔ LeadVariable basis n i) (sym (short-listed found (variablesAt n (canonicalPlaces n (vectorsOf basis))) q)) (canonical-leads basis s n i),
   );
 }

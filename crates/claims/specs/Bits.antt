@@ -39,6 +39,10 @@ parityBelow (suc k) mask point = cond (common mask point k) (not (parityBelow k 
 abbrev pub LeadAt : Basis → ℕ → Type 0
 LeadAt basis k = (b : ℕ) × Mem b (vectorsOf basis) × Highest k b
 
+-- i is the index of a variable of n at whose place some vector of the basis has its highest set bit.
+abbrev pub LeadVariable : Basis → ℕ → ℕ → Type 0
+LeadVariable basis n i = (k : ℕ) × (k < n) × (i ≡ indexOf n k) × LeadAt basis k
+
 -- ---- what is found
 
 -- The place found of a vector: its highest set bit, which no other place is, and 15 less the count of its leading zeros.
@@ -79,4 +83,4 @@ pub record BitsCounted : Type 0 where
   pub leads : (basis : Basis) → IsBasis basis
       → Returns (leads.Asked tt (basis, tt)) (leads.Learnt tt (basis, tt)) (λ mask. (k : ℕ) → (bit k mask ≡ true) ↔ LeadAt basis k)
   pub canonical : (basis : Basis) → IsBasis basis → (n : ℕ) → n ≤ maxVariables
-      → Returns (canonical.Asked tt (basis, (n, tt))) (canonical.Learnt tt (basis, (n, tt))) (λ variables. (k : ℕ) → k < n → Mem (indexOf n k) (listed variables) ↔ LeadAt basis k)
+      → Returns (canonical.Asked tt (basis, (n, tt))) (canonical.Learnt tt (basis, (n, tt))) (λ variables. (i : ℕ) → Mem i (listed variables) ↔ LeadVariable basis n i)
