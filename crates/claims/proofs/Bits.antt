@@ -3,14 +3,14 @@
 use mathlib.Core.Path.{_≡_, refl, sym, ap, _∙_, subst}
 use mathlib.Core.Bool.{Bool, true, false, not, cond, Bool·beq}
 use mathlib.Core.Logic.{_↔_}
-use mathlib.Core.List.{List}
+use mathlib.Core.List.{List, [], _∷_}
 use Prim.Native.Nat.{ℕ, zero, suc, _/_, _^_, _<_}
 use native.Mathlib.Omega.{arith}
 use lib.Dec.{eqb}
 use Rattle.gf2.specs.Bits.{_⊻_, bit, indexOf, Highest, halvings, lead}
 use Rattle.gf2.specs.Finite.{Mem}
 use Rattle.gf2.specs.Parity.{oddIn, odd}
-use Rattle.gf2.specs.Basis.{isLead, leadMask, canonicalPlaces, variablesAt}
+use Rattle.gf2.specs.Basis.{isLead, leadMask, placesAt, canonicalPlaces, variablesAt}
 use Rattle.gf2.proofs.Logic.{⊻-assoc, ⊻-comm}
 use Rattle.gf2.proofs.Finite.{map-mem, mem-map}
 use Rattle.gf2.proofs.Leads.{lead-highest, lead-zeros, highest-unique}
@@ -20,12 +20,16 @@ use Rattle.gf2.proofs.Variables.{isLead-at, bit-leadMask, places-mem, mem-place
 use Rattle.gf2.proofs.lead.Reads as contract-lead
 use Rattle.gf2.proofs.parity.Reads as contract-parity
 use Rattle.basis.specs.declared.Basis.{Basis}
-use Rattle.basis.specs.Reduced.{vectorsOf, IsBasis}
+use Rattle.basis.specs.Short.{short}
+use Rattle.basis.specs.Reduced.{vectorsOf, basisOf, IsBasis}
 use Rattle.basis.proofs.Values.{short-listed}
+use Rattle.basis.proofs.Basis.leads.Reads as contract-leads
+use Rattle.basis.proofs.Basis.canonical.Reads as contract-canonical
 use Rattle.product.specs.Lowest.{evenHalvings, lowest}
 use Rattle.product.specs.Product.{factor, factorAt}
 use Rattle.product.proofs.LowestBit.{lowest-is, lowest-zeros, lowest-unique}
 use Rattle.product.proofs.lowest.Reads as contract-lowest
+use Rattle.product.proofs.factor_at.Reads as contract-factor-at
 use Rattle.cubes.proofs.Counts.{mem-isLead}
 use Rattle.claims.specs.Bits.{common, parityBelow, LeadAt, LeadVariable, LeadFound, LowestFound, BitsCounted}
 
@@ -36,10 +40,23 @@ parities : (parityBelow 16 12 8 ≡ true) × (parityBelow 16 12 14 ≡ false) ×
 unfolding parityBelow bit
 parities = (refl, refl, refl, refl, refl)
 
--- What the contracts let through: of vector 6 the lead at place 2, of mask 12 the lowest bit at place 2, of mask 12 at point 8 an odd number of bits.
-returned : contract-lead.Learnt tt (6, tt) 2 (6, tt) × contract-lowest.Learnt tt (12, tt) 2 (12, tt) × contract-parity.Learnt tt (12, (8, tt)) true (12, (8, tt))
-unfolding lead halvings bit lowest evenHalvings odd oddIn
-returned = (refl, refl, refl)
+-- The contracts let these through: of vector 6 the lead at place 2; of mask 12 the lowest bit at place 2; of mask 12 at point 8 an odd number of bits, so
+-- that the factor of constant 1 is true there; of the basis 3, in three variables, the lead bit 2, and x2 canonical.
+lead-returned : contract-lead.Learnt tt (6, tt) 2 (6, tt)
+unfolding lead halvings
+lead-returned = refl
+
+lowest-returned : contract-lowest.Learnt tt (12, tt) 2 (12, tt)
+unfolding lowest evenHalvings bit
+lowest-returned = refl
+
+parity-returned : contract-parity.Learnt tt (12, (8, tt)) true (12, (8, tt)) × contract-factor-at.Learnt tt (1, (12, (8, tt))) true (1, (12, (8, tt)))
+unfolding odd oddIn bit factorAt
+parity-returned = (refl, refl)
+
+leads-returned : contract-leads.Learnt tt (basisOf (3 ∷ []), tt) 2 (basisOf (3 ∷ []), tt) × contract-canonical.Learnt tt (basisOf (3 ∷ []), (3, tt)) (short (2 ∷ [])) (basisOf (3 ∷ []), (3, tt))
+unfolding lead halvings leadMask isLead placesAt
+leads-returned = (refl, refl)
 
 -- ---- a lead
 

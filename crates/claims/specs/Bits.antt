@@ -30,7 +30,7 @@ use Rattle.product.proofs.factor_at.Reads as factor-at
 abbrev pub common : ℕ → ℕ → ℕ → Bool
 common mask point k = bit k mask && bit k point
 
--- The parity of the common bits at the places below k, one place after the other: it is even at first, and each common bit turns it over.
+-- The parity of the common bits at the places below k, one place after the other: it is even (false) at first, and each common bit turns it over.
 unfoldable pub parityBelow : ℕ → ℕ → ℕ → Bool
 parityBelow zero mask point = false
 parityBelow (suc k) mask point = cond (common mask point k) (not (parityBelow k mask point)) (parityBelow k mask point)
@@ -74,7 +74,7 @@ pub record BitsCounted : Type 0 where
   -- `gf2::lead` and `product::lowest`, of every number but 0, which has no bit set.
   pub lead : (v : ℕ) → 0 < v → v < 2 ^ 16 → Returns (lead.Asked tt (v, tt)) (lead.Learnt tt (v, tt)) (LeadFound v)
   pub lowest : (mask : ℕ) → 0 < mask → mask < 2 ^ 16 → Returns (lowest.Asked tt (mask, tt)) (lowest.Learnt tt (mask, tt)) (LowestFound mask)
-  -- `gf2::parity`, and `product::factor_at`: a factor is true where that parity is its constant.
+  -- `gf2::parity`, and `product::factor_at`: a factor is true where that parity is odd for constant 1, even for any other.
   pub parity : (mask point : ℕ) → mask < 2 ^ 16 → Returns (parity.Asked tt (mask, (point, tt))) (parity.Learnt tt (mask, (point, tt))) (ParityFound mask point)
   pub factor-at : (constant mask point : ℕ) → mask < 2 ^ 16
       → Returns (factor-at.Asked tt (constant, (mask, (point, tt)))) (factor-at.Learnt tt (constant, (mask, (point, tt))))

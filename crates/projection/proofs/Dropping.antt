@@ -1,4 +1,5 @@
--- Laws of a place that is dropped: the bits of what is left, and a point projected to the places clear in a mask, its highest place dropped first.
+-- Laws of a place that is dropped: the bits of what is left, and a point projected to the places clear in a mask, the highest place of the mask dropped
+-- first.
 -- Read next: Steps.
 use mathlib.Core.Path.{_≡_, sym, ap, ap₂, _∙_}
 use mathlib.Core.Bool.{Bool, false, not}
@@ -52,7 +53,7 @@ bit-drop-above zero j w h = ap (bit j) (drop-zero w)
 bit-drop-above (suc k) zero w h = absurd (omega arith)
 bit-drop-above (suc k) (suc j) w h = ap (bit j) (drop-half k w) ∙ bit-drop-above k j (w / 2) (omega arith)
 
--- A point of n variables stays one.
+-- It doesn't grow, so a point of n variables stays one.
 pub drop-le : (k w : ℕ) → dropPlace k w ≤ w
 unfolding dropPlace
 drop-le k w = omega (arith, mul-le-mul-right (2 ^ k) (shr-mono k (shr-le w 1)), split w k)
@@ -102,8 +103,8 @@ module _ (k mask : ℕ) (top : Highest k mask) where
       more : (m : ℕ) → k ≤ m → SameBits w m → SameBits w (suc m)
       more m h e = rw (top .above (suc m) (omega arith), rest-above m h, bit-drop-above k m w h) (ap (λ (l : List Bool). bit (suc m) w ∷ l) e)
 
-  -- So a point of n variables is projected to the same places once the highest place of the mask is dropped. What comes to stand at the highest place
-  -- of the n is 0 and changes nothing.
+  -- So a point of n variables gives the same number once the highest place of the mask is dropped, by the mask without it. What comes to stand at the
+  -- highest place of the n is 0 and changes nothing.
   pub project-drop : (n w : ℕ) → w < 2 ^ n → project (placesClear n mask) w ≡ project (placesClear n rest) (dropPlace k w)
   unfolding project
   project-drop n w h = go (decLe n k)

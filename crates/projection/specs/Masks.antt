@@ -18,8 +18,7 @@ placesSet n mask = placesAt n (λ k. bit k mask)
 abbrev pub placesClear : ℕ → ℕ → List ℕ
 placesClear n mask = placesAt n (λ k. not (bit k mask))
 
--- The point w without its bit at place k: the bits above it come down by one place. That the others are as they were is `bit-drop-below` and
--- `bit-drop-above`.
+-- The point w without its bit at place k. That the bits below it stay and those above come down by one place is `bit-drop-below` and `bit-drop-above`.
 unfoldable pub dropPlace : ℕ → ℕ → ℕ
 dropPlace k w = w / 2 / 2 ^ k * 2 ^ k + w % 2 ^ k
 

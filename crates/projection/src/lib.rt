@@ -28,8 +28,8 @@ fn drop_place(place: u32, w: u16) -> u16
     (half >> place << place) + w % (1 << place)
 }
 
-// The point with the places set in the mask dropped, order of the others kept. Only the places that are dropped are visited: the highest first, which
-// its count of leading zeros finds.
+// The point with the places set in the mask dropped, order of the others kept. Only these are visited, the highest that is left in the mask first: the
+// mask's count of leading zeros finds it.
 fn drop_places(mask: u16, w: u16) -> u16
     ensures { λ r. ⌜ ((n : ℕ) → w < 2 ^ n → r ≡ project (placesClear n mask) w) ⌝ }
 {
@@ -122,16 +122,14 @@ pub fn count_kept(flags: &[bool; MAX_POINTS], leads: u16, n: usize) -> usize
 fn write_point(
     flags: &[bool; MAX_POINTS],
     leads: u16,
-    n: usize,
     w: u16,
     count: usize,
     room: &mut [u16],
 ) -> usize
-    requires { ⌜ n ≤ maxVariables ⌝ }
-    requires { ⌜ w < 2 ^ n ⌝ }
+    requires { ⌜ w < 2 ^ maxVariables ⌝ }
     requires { ⌜ (isKept leads (flagged (now flags)) w ≡ true → count < length (now room)) ⌝ }
     ensures { λ r. ⌜ r ≡ cond (isKept leads (flagged (now (flags .entry))) w) (count + 1) count ⌝ }
-    ensures { λ r. ⌜ now (room .exit) ≡ cond (isKept leads (flagged (now (flags .entry))) w) (set (now (room .entry)) count (project (placesClear n leads) w)) (now (room .entry)) ⌝ }
+    ensures { λ r. ⌜ ((n : ℕ) → w < 2 ^ n → now (room .exit) ≡ cond (isKept leads (flagged (now (flags .entry))) w) (set (now (room .entry)) count (project (placesClear n leads) w)) (now (room .entry))) ⌝ }
 {
     if !is_kept(flags, leads, w) {
         return count;
@@ -151,7 +149,7 @@ pub fn write_kept(flags: &[bool; MAX_POINTS], leads: u16, n: usize, room: &mut [
     let mut count = 0;
     let mut w: u16 = 0;
     while w < size {
-        count = write_point(flags, leads, n, w, count, &mut *room);
+        count = write_point(flags, leads, w, count, &mut *room);
         w += 1;
     }
 }

@@ -5,6 +5,7 @@ use Prim.Native.Nat.{ℕ, _-_, _^_, _≤_, _<_}
 use native.Mathlib.Omega.{arith}
 use borrow.Author.Needs.{needs}
 use lib.ListN.{length}
+use lib.Pow.{pow-mono}
 use Rattle.gf2.specs.Finite.{select}
 use Rattle.table.specs.Decision.{front}
 use Rattle.space.specs.Restriction.{project}
@@ -38,15 +39,12 @@ write-point-requires c κs =
     let t = isKept (a .leads) (flagged (a .flags .now)) in
     let g = project (placesClear (a .n) (a .leads)) in
     let k : l .w < 2 ^ a .n = omega (arith, c .before .before .before .point-count .ensures) in (
-      s .pre .0,
-      (
-        k,
-        λ e. omega (
-          arith,
-          written-room g t (l .w) (2 ^ a .n) (a .room .now) (s .pre .1) k e,
-          written-length g t (l .w) (2 ^ a .n) (a .room .now) (s .pre .1) (l .inv .0),
-          ap length (l .inv .2),
-        ),
+      omega (arith, pow-mono (s .pre .0)),
+      λ e. omega (
+        arith,
+        written-room g t (l .w) (2 ^ a .n) (a .room .now) (s .pre .1) k e,
+        written-length g t (l .w) (2 ^ a .n) (a .room .now) (s .pre .1) (l .inv .0),
+        ap length (l .inv .2),
       ),
     )
 
@@ -69,7 +67,7 @@ loop-again c =
       omega arith,
       count-step t (l .w) (l .count) (p .result) (l .inv .1) (t (l .w)) refl (p .ensures .0),
       write-step g t (l .w) (l .count) (a .room .now) (l .room) _ (l .inv .1) (l .inv .2)
-          (λ e. rw (l .inv .1) (written-room g t (l .w) (2 ^ a .n) (a .room .now) (s .pre .1) k e)) (t (l .w)) refl (p .ensures .1),
+          (λ e. rw (l .inv .1) (written-room g t (l .w) (2 ^ a .n) (a .room .now) (s .pre .1) k e)) (t (l .w)) refl (p .ensures .1 (a .n) k),
     )
 
 same-length : tie.Need-same-length Inv-loop μ-loop

@@ -36,3 +36,12 @@ fn no_other_function_counts() {
         .collect();
     assert_eq!(found, COUNTING);
 }
+
+#[test]
+fn counts_are_found() {
+    let text = &code_in("crates")["gf2/src/lib.rt"];
+    let other = text.replace("x ^ b", "u16::leading_zeros(x)");
+    let found = counting(&other);
+    assert_eq!(found[..2], counting(text));
+    assert_eq!(found[2..], [("clear_lead", "leading_zeros")]);
+}

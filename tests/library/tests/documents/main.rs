@@ -6,7 +6,7 @@
 //! crate has its row (`crates`), and files exist (`files`). So do the theorems that
 //! comments of the crates quote (`comments`). Rooms that suffice are proved to be
 //! those of the header and of the Rust package (`rooms`), and zeros and ones are
-//! counted where the claim about them says (`bits`).
+//! counted in few functions (`bits`).
 //!
 //! Every check returns what it finds wrong, so that it can be tried on a document
 //! with a mistake in it: misspelt, each name that a check reads is found.

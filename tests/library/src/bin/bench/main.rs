@@ -47,7 +47,7 @@ fn closed_tables(dimension: usize) -> Vec<Table> {
         .collect()
 }
 
-/// Tables with about half of the points on whose number of set bits is odd.
+/// Tables with about half of those points on that have an odd number of set bits.
 fn odd_tables() -> Vec<Table> {
     let is_odd = |point: &u16| point.count_ones() % 2 == 1;
     let tables = random_tables(50, 0).into_iter();
