@@ -12,16 +12,19 @@ const COUNTING: [(&str, &str, &str); 4] = [
     ("product/src/lib.rt", "lowest", "trailing_zeros"),
 ];
 
+/// The language's counts.
+const COUNTS: [&str; 3] = ["leading_zeros", "trailing_zeros", "count_ones"];
+
 /// The functions of a file of Rattle that count zeros or ones, with the counts.
 fn counting(text: &str) -> Vec<(&str, &str)> {
-    let functions = text.split("fn ").skip(1);
-    let counts_of = |function| {
-        let (name, body): (&str, &str) = str::split_once(function, '(').expect("a name");
-        let counts = ["leading_zeros", "trailing_zeros", "count_ones"].into_iter();
+    let mut found = Vec::new();
+    for function in text.split("fn ").skip(1) {
+        let (name, body) = function.split_once('(').expect("a name");
+        let counts = COUNTS.into_iter();
         let made = counts.filter(|count| body.contains(&format!("::{count}(")));
-        made.map(|count| (name, count)).collect::<Vec<_>>()
-    };
-    functions.flat_map(counts_of).collect()
+        found.extend(made.map(|count| (name, count)));
+    }
+    found
 }
 
 #[test]
