@@ -3,11 +3,11 @@ use mathlib.Core.Path.{_≡_}
 use Prim.Native.Nat.{ℕ, _+_, _*_, _/_, _%_, _^_, _<_}
 use native.Mathlib.Nat.{div-mul-le-self, mod-eq-of-lt}
 use native.Mathlib.Omega.{arith}
+use borrow.Author.Needs.{needs}
 use lib.Pow.{pow-pos}
 use Rattle.gf2.proofs.Xor.{shifted-one}
 use Rattle.projection.specs.Masks.{dropPlace}
 use Rattle.projection.proofs.Dropping.{drop-le}
-use borrow.Author.Needs.{needs}
 use Rattle.projection.proofs.drop_place.Statement.{statement}
 use Rattle.projection.proofs.drop_place.Tie as tie
 

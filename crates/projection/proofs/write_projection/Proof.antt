@@ -9,9 +9,9 @@ use lib.Pow.{pow-pos}
 use Rattle.gf2.specs.Bits.{_⊕_}
 use Rattle.table.specs.Decision.{front}
 use Rattle.table.proofs.Table.{inside-at}
+use Rattle.table.proofs.Fill.{fill-next, fill-part, fill-all}
 use Rattle.space.specs.Restriction.{project}
 use Rattle.projection.specs.Masks.{placesSet, placesClear, projected}
-use Rattle.table.proofs.Fill.{fill-next, fill-part, fill-all}
 use Rattle.projection.proofs.Masks.{projected-length, turned-set}
 use Rattle.projection.proofs.write_projection.Statement.{statement}
 use Rattle.projection.proofs.write_projection.Tie as tie
@@ -64,7 +64,7 @@ mul-room : tie.Need-mul-room Inv-loop μ-loop
 mul-room c = search needs
 
 slice-write-room : tie.Need-slice-write-room Inv-loop μ-loop
-slice-write-room c = omega (arith, so-far (c .before .before .before), c .before .before .before .before .before .before .before .pre)
+slice-write-room c = let t = c .before .before .before in omega (arith, so-far t, t .before .before .before .before .pre)
 
 add-i : tie.Need-add-i Inv-loop μ-loop
 add-i c = search needs
