@@ -20,7 +20,7 @@ use Rattle.space.specs.Restriction.{project}
 use Rattle.space.specs.Affine.{directions, projection}
 use Rattle.projection.specs.Masks.{projected as byMask}
 use Rattle.projection.proofs.Masks.{projected-projection}
-use Rattle.projection.proofs.Steps.{least-reduced}
+use Rattle.projection.proofs.Affine.{least-reduced}
 use Rattle.analysis.specs.declared.AffineSpace.{AffineSpace}
 use Rattle.analysis.specs.Affine.{affineProjection, onTests, affineAccepted, affineRefused, affineAnswer, affineAfter}
 

@@ -1,6 +1,5 @@
 -- Laws of a place that is dropped: the bits of what is left, and a point projected to the places clear in a mask, the highest place of the mask dropped
--- first.
--- Read next: Steps.
+-- first. Read next: Affine.
 use mathlib.Core.Path.{_≡_, sym, ap, ap₂, _∙_}
 use mathlib.Core.Bool.{Bool, false, not}
 use mathlib.Core.List.{List, _∷_, map}

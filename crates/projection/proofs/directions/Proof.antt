@@ -19,7 +19,7 @@ use Rattle.table.proofs.Table.{inside, inside-at}
 use Rattle.space.specs.Affine.{directions}
 use Rattle.space.proofs.Steps.{directions-take, directions-all, directions-first}
 use Rattle.projection.specs.Masks.{differences}
-use Rattle.projection.proofs.Steps.{directions-built}
+use Rattle.projection.proofs.Affine.{directions-built}
 use Rattle.projection.proofs.directions.Statement.{statement}
 use Rattle.projection.proofs.directions.Tie as tie
 
