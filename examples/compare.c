@@ -1,7 +1,7 @@
 /* Prints where two stored tables differ. Its two arguments name the files that hold them; standard output gets a line for each point that they mark
  * differently, rising, with the mark in the left table and the mark in the right one, and then the number of these points. If a table is refused,
- * nothing is printed there, its file, `refused N` and why go to standard error, and the exit status is 1. To build and run it, in the folder of the
- * repository:
+ * nothing is printed there, its file, `refused N` and why go to standard error, with the place of the byte at fault where there is one, and the exit
+ * status is 1. To build and run it, in the folder of the repository:
  *
  *     rt check pla_to_table && rt staticlib glospruma
  *     cc -Iinclude examples/compare.c target/staticlib/libglospruma.a -o target/compare
@@ -29,6 +29,16 @@ static uint8_t differences[GLOSPRUMA_COMPARISON_ROOM];
 /* The marks in words, by their numbers. */
 static const char *const words[] = {"off", "on", "free"};
 
+/* Says why, as `refused 21 at 5: bytes are missing`; a number without a place is printed without one. */
+static int refused(unsigned number, size_t place) {
+    fprintf(stderr, "refused %u", number);
+    if (glospruma_refusal_has_place(number)) {
+        fprintf(stderr, " at %zu", place);
+    }
+    fprintf(stderr, ": %s\n", glospruma_refusal_text(number));
+    return EXIT_FAILURE;
+}
+
 /* The system could not read or write; it knows why. */
 static int failed(const char *where) {
     perror(where);
@@ -47,11 +57,11 @@ static int load(const char *path, stored *table) {
         return failed(path);
     }
     fclose(file);
-    unsigned refusal =
-        glospruma_read_table(table->bytes, table->length, on, GLOSPRUMA_MAX_POINTS, free_points, GLOSPRUMA_MAX_POINTS).refusal;
-    if (refusal != GLOSPRUMA_ACCEPTED) {
-        fprintf(stderr, "%s: refused %u: %s\n", path, refusal, glospruma_refusal_text(refusal));
-        return EXIT_FAILURE;
+    glospruma_table_read alone =
+        glospruma_read_table(table->bytes, table->length, on, GLOSPRUMA_MAX_POINTS, free_points, GLOSPRUMA_MAX_POINTS);
+    if (alone.refusal != GLOSPRUMA_ACCEPTED) {
+        fprintf(stderr, "%s: ", path);
+        return refused(alone.refusal, alone.place);
     }
     return EXIT_SUCCESS;
 }
@@ -67,8 +77,7 @@ int main(int count, char **arguments) {
     /* Still to be refused: number 10, tables with different numbers of variables. */
     glospruma_comparison found = glospruma_compare(left.bytes, left.length, right.bytes, right.length, 0, differences, sizeof differences);
     if (found.refusal != GLOSPRUMA_ACCEPTED) {
-        fprintf(stderr, "refused %u: %s\n", (unsigned)found.refusal, glospruma_refusal_text(found.refusal));
-        return EXIT_FAILURE;
+        return refused(found.refusal, found.place);
     }
     for (size_t place = 0; place < found.records; place++) {
         const uint8_t *record = differences + GLOSPRUMA_DIFFERENCE_LENGTH * place;

@@ -1,6 +1,6 @@
 /* Prints the points at which a form is true. Standard input holds the form's bytes; standard output gets the number of variables and the points,
- * rising, `-` if there are none. If the bytes aren't a form, nothing is printed there, `refused 8` and why goes to standard error, and the exit status is 1.
- * To build and run it, in the folder of the repository:
+ * rising, `-` if there are none. If the bytes aren't a form, nothing is printed there, `refused N`, the place of the byte at fault and why go to
+ * standard error, and the exit status is 1. To build and run it, in the folder of the repository:
  *
  *     rt staticlib glospruma
  *     cc -Iinclude examples/form_points.c target/staticlib/libglospruma.a -o target/form_points
@@ -30,7 +30,8 @@ int main(void) {
     }
     glospruma_points_read form = glospruma_form_points(input, length, points, GLOSPRUMA_MAX_POINTS);
     if (form.refusal != GLOSPRUMA_ACCEPTED) {
-        fprintf(stderr, "refused %u: %s\n", (unsigned)form.refusal, glospruma_refusal_text(form.refusal));
+        /* The room suffices, so that a place goes with every number that is left. */
+        fprintf(stderr, "refused %u at %zu: %s\n", (unsigned)form.refusal, form.place, glospruma_refusal_text(form.refusal));
         return EXIT_FAILURE;
     }
     printf("variables %u\npoints%s", (unsigned)form.variables, form.count == 0 ? " -" : "");

@@ -28,8 +28,9 @@
  * - The thread has 128 KiB of stack left. Most calls use far less.
  *
  * Numbers and bytes may be any. A call returns a struct whose first field is 0, or a refusal number of the list below. A refused call has all
- * other numbers 0 and every lent room as it was. An accepted call has its answer at the front of the room, and the rest of the room as it was.
- * No call keeps a pointer, allocates, or has a state of its own. Structs have padding: compare them field by field.
+ * other numbers 0, but for the place that goes with 20 to 27, and every lent room as it was. An accepted call has its answer at the front of the
+ * room, and the rest of the room as it was. No call keeps a pointer, allocates, or has a state of its own. Structs have padding: compare them
+ * field by field.
  */
 #ifndef GLOSPRUMA_H
 #define GLOSPRUMA_H
@@ -42,7 +43,7 @@ extern "C" {
 #endif
 
 /* The version of this header and of the library, as in CHANGELOG.md. */
-#define GLOSPRUMA_VERSION "0.3.1"
+#define GLOSPRUMA_VERSION "0.4.0"
 
 /* The largest number of variables, of points of a table, and of variables of a listing; the bytes of the longest stored table. */
 #define GLOSPRUMA_MAX_VARIABLES 12
@@ -73,9 +74,25 @@ enum glospruma_mark {
     GLOSPRUMA_FREE = 2
 };
 
-/* Each call tests what concerns it in the order 1, 2, 3, 4, 6, 5, 9, 7, and bytes for 8 first; the first that applies is given. Of two tables the
- * left one is tested so, then the right one, and 10 and 11 come last. When each is given is what glospruma_refusal_text says; docs/CALLS.md has
- * what to do about it. */
+/* Each call tests what concerns it in this order: bytes first, for 20 to 27, and then 1, 2, 3, 4, 6, 5, 9, 7; the first that applies is given. Of
+ * two tables the left one is tested so, then the right one, and 10 and 11 come last. When each is given is what glospruma_refusal_text says;
+ * docs/CALLS.md has what to do about it.
+ *
+ * With 20 to 27 goes a place, counted from 0: the first byte at fault, or the length of the input where bytes are missing. With every other number,
+ * and when accepted, it is 0. Of several faults the first from the left is given; docs/CALLS.md, "The place", has every rule. A table is never
+ * refused with 22, 23, 24 or 27: its n is tested for 1, after its bytes. An example of each number:
+ *
+ * | bytes                                     | read as     | refusal | place | what to do                                                        |
+ * | ---                                       | ---         | ---     | ---   | ---                                                               |
+ * | 4E 02 4F 01 00 45 01 00                   | form        | 20      | 2     | give a table to a call that reads tables: 4F is no kind of a form |
+ * | 4E 02 4F 01                               | table       | 21      | 4     | bring the whole table: a point has two bytes                      |
+ * | 4E 0D 45 00 00                            | form        | 22      | 1     | give 1 to 12 variables                                            |
+ * | 4E 02 50 58 01 04 00 45 01 00             | form        | 23      | 4     | give a mask of x1 and x2, since n is 2: 1 to 3                    |
+ * | 4E 02 50 58 01 01 00 58 01 02 00 45 01 00 | form        | 24      | 8     | exchange the factors, so that the lowest bits of masks fall       |
+ * | 4E 02 4F 01 00 45 00 01                   | table       | 25      | 6     | write the low byte of the count first: 45 01 00                   |
+ * | 4E 02 45 00 00 0A                         | table, form | 26      | 5     | take away the line feed after the end                             |
+ * | 4E 02, then 65 times 50                   | form        | 27      | 66    | leave out the products that stand twice                           |
+ */
 enum glospruma_refusal {
     GLOSPRUMA_ACCEPTED = 0,
     GLOSPRUMA_VARIABLES = 1,
@@ -85,41 +102,47 @@ enum glospruma_refusal {
     GLOSPRUMA_SIZE = 5,
     GLOSPRUMA_AFFINE = 6,
     GLOSPRUMA_ROOM = 7,
-    GLOSPRUMA_LAYOUT = 8,
     GLOSPRUMA_PLACE = 9,
     GLOSPRUMA_COUNTS = 10,
-    GLOSPRUMA_FIRST_POINT = 11
+    GLOSPRUMA_FIRST_POINT = 11,
+    GLOSPRUMA_WRONG_KIND = 20,
+    GLOSPRUMA_BYTES_MISSING = 21,
+    GLOSPRUMA_WRONG_VARIABLES = 22,
+    GLOSPRUMA_WRONG_FACTOR = 23,
+    GLOSPRUMA_NOT_CANONICAL = 24,
+    GLOSPRUMA_WRONG_COUNT = 25,
+    GLOSPRUMA_BYTES_AFTER = 26,
+    GLOSPRUMA_TOO_MANY_PRODUCTS = 27
 };
+
+/* Whether a place goes with a number: 1 for 20 to 27, and else 0. */
+static inline int glospruma_refusal_has_place(unsigned number) {
+    return number >= GLOSPRUMA_WRONG_KIND && number <= GLOSPRUMA_TOO_MANY_PRODUCTS;
+}
 
 /* When a number is given, in words; n-k is the number of variables that the restriction has. */
 static inline const char *glospruma_refusal_text(unsigned number) {
     switch (number) {
-    case GLOSPRUMA_ACCEPTED:
-        return "accepted";
-    case GLOSPRUMA_VARIABLES:
-        return "n is 0 or above 12";
-    case GLOSPRUMA_POINT:
-        return "a point of either list is 2^n or more";
-    case GLOSPRUMA_ORDER:
-        return "a point isn't greater than the one before it in its list";
-    case GLOSPRUMA_SHARED:
-        return "a point stands in both lists";
-    case GLOSPRUMA_SIZE:
-        return "listing with n above 6, or a form with n-k above 6";
-    case GLOSPRUMA_AFFINE:
-        return "smallest affine space of an empty on set";
-    case GLOSPRUMA_ROOM:
-        return "an answer is longer than its lent room";
-    case GLOSPRUMA_LAYOUT:
-        return "bytes aren't a form, or aren't laid out as a table";
-    case GLOSPRUMA_PLACE:
-        return "a listing place above the number of candidates";
-    case GLOSPRUMA_COUNTS:
-        return "two tables have different numbers of variables";
-    case GLOSPRUMA_FIRST_POINT:
-        return "a first point above 2^n";
-    default:
-        return "no call gives this number";
+    case GLOSPRUMA_ACCEPTED: return "accepted";
+    case GLOSPRUMA_VARIABLES: return "n is 0 or above 12";
+    case GLOSPRUMA_POINT: return "a point of either list is 2^n or more";
+    case GLOSPRUMA_ORDER: return "a point isn't greater than the one before it in its list";
+    case GLOSPRUMA_SHARED: return "a point stands in both lists";
+    case GLOSPRUMA_SIZE: return "listing with n above 6, or a form with n-k above 6";
+    case GLOSPRUMA_AFFINE: return "smallest affine space of an empty on set";
+    case GLOSPRUMA_ROOM: return "an answer is longer than its lent room";
+    case GLOSPRUMA_PLACE: return "a listing place above the number of candidates";
+    case GLOSPRUMA_COUNTS: return "two tables have different numbers of variables";
+    case GLOSPRUMA_FIRST_POINT: return "a first point above 2^n";
+    case GLOSPRUMA_WRONG_KIND: return "a kind byte is unknown, or stands where it can't";
+    case GLOSPRUMA_BYTES_MISSING: return "bytes are missing";
+    case GLOSPRUMA_WRONG_VARIABLES: return "n of a form is 0 or above 12";
+    case GLOSPRUMA_WRONG_FACTOR: return "a factor's constant is above 1, or its mask is 0 or 2^n or more";
+    case GLOSPRUMA_NOT_CANONICAL: return "a factor doesn't agree with those before it in its product";
+    case GLOSPRUMA_WRONG_COUNT: return "the count in the end record isn't that of the points or products before it";
+    case GLOSPRUMA_BYTES_AFTER: return "bytes after the end";
+    case GLOSPRUMA_TOO_MANY_PRODUCTS: return "a product too many: a form has at most 64";
+    default: return "no call gives this number";
     }
 }
 
@@ -137,17 +160,19 @@ typedef struct {
 
 typedef struct {
     uint8_t refusal;
+    size_t place;      /* goes with 20 to 27, else 0 */
     size_t variables;  /* n */
     size_t on_count;   /* points written to the room for on points */
     size_t free_count; /* points written to the room for free points */
 } glospruma_table_read;
 
-/* Reads a stored table into two rooms. Refusals 8; 1, 2, 3; 7 if either room is short, and then neither is written. */
+/* Reads a stored table into two rooms. Refusals 20, 21, 25, 26; 1, 2, 3; 7 if either room is short, and then neither is written. */
 glospruma_table_read glospruma_read_table(const uint8_t *bytes, size_t bytes_length, uint16_t *on, size_t on_length, uint16_t *free_points,
                                           size_t free_length);
 
 typedef struct {
     uint8_t refusal;
+    size_t place;   /* goes with 20 to 27, else 0 */
     size_t records; /* records of 4 bytes written */
     size_t next;    /* the point to go on from: the first that differs and didn't fit, or 2^n when done */
     size_t total;   /* points that differ in the whole tables, whatever the first point and the room */
@@ -155,8 +180,8 @@ typedef struct {
 
 /* Two stored tables side by side: a record into the room for each point from `first` on that they mark differently, rising; a room that runs short
  * stops the listing. Start at 0 and go on at `next` until it is 2^n: then `total` records have come. With room for a record every call gets
- * further; with GLOSPRUMA_COMPARISON_ROOM one call does. Refusals 8; 1, 2, 3; 8; 1, 2, 3; 10, 11, of the left table first and then of the right
- * one. The number doesn't tell which table it is of: where that matters, read each with glospruma_read_table first. */
+ * further; with GLOSPRUMA_COMPARISON_ROOM one call does. Refusals 20, 21, 25, 26; 1, 2, 3; 20, 21, 25, 26; 1, 2, 3; 10, 11, of the left table first
+ * and then of the right one. Neither number nor place tells which table it is of: where that matters, read each with glospruma_read_table first. */
 glospruma_comparison glospruma_compare(const uint8_t *left, size_t left_length, const uint8_t *right, size_t right_length, size_t first,
                                        uint8_t *room, size_t room_length);
 
@@ -230,19 +255,21 @@ glospruma_form_written glospruma_write_form(size_t n, const uint16_t *on, size_t
 
 typedef struct {
     uint8_t refusal;
+    size_t place;     /* goes with 20 to 27, else 0 */
     size_t variables; /* n */
     size_t count;     /* points written */
 } glospruma_points_read;
 
-/* The points of a form, rising, into the room. Refusals 8; 7. */
+/* The points of a form, rising, into the room. Refusals 20, 21, 22, 23, 24, 25, 26, 27; 7. */
 glospruma_points_read glospruma_form_points(const uint8_t *bytes, size_t bytes_length, uint16_t *room, size_t room_length);
 
 typedef struct {
     uint8_t refusal;
+    size_t place;  /* goes with 20 to 27, else 0 */
     size_t length; /* bytes written, the same as were read */
 } glospruma_form_rewritten;
 
-/* A form read and written again, into the room: the same bytes. Refusals 8; 7. */
+/* A form read and written again, into the room: the same bytes. Refusals 20, 21, 22, 23, 24, 25, 26, 27; 7. */
 glospruma_form_rewritten glospruma_form_rewrite(const uint8_t *bytes, size_t bytes_length, uint8_t *room, size_t room_length);
 
 typedef struct {
@@ -251,7 +278,7 @@ typedef struct {
 } glospruma_report_written;
 
 /* The printed report of a stored table, as text into the room, without a 0 byte after it. A table that is refused is reported by the line
- * `refused N`; the call itself is refused for its room alone. Refusal 7. */
+ * `refused N`, or `refused N at PLACE` where a place goes with the number; the call itself is refused for its room alone. Refusal 7. */
 glospruma_report_written glospruma_report(const uint8_t *bytes, size_t bytes_length, uint8_t *room, size_t room_length);
 
 #ifdef __cplusplus

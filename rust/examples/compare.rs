@@ -2,23 +2,20 @@
 //! hold them; standard output gets a line for each point that they mark
 //! differently, rising, with the mark in the left table and the mark in the right
 //! one, and then the number of these points. If a table is refused, nothing is
-//! printed there, its file, `refused N` and why go to standard error, and the exit
-//! status is 1. To run it, in the folder of this package:
+//! printed there, its file, `refused N` and why go to standard error, with the place
+//! of the byte at fault where there is one, and the exit status is 1. To run it, in
+//! the folder of this package:
 //!
 //!     cargo run --example compare ../tests/vectors/00004-p4.table ../tests/vectors/00006-p6.table
 //!
 //! Follows document 02, No. 1.
 
-use glospruma::{differences, read_table, Difference, Refusal, MAX_POINTS, TABLE_LENGTH};
+use glospruma::{differences, read_table, Difference, MAX_POINTS, TABLE_LENGTH};
 use std::env;
 use std::error::Error;
 use std::fs::File;
 use std::io::{self, Read, Write};
 use std::process::ExitCode;
-
-fn refused(refusal: Refusal) -> String {
-    format!("refused {}: {refusal}", u8::from(refusal))
-}
 
 /// The table of a file. It is read alone as well, since a comparison doesn't tell
 /// which table it refuses.
@@ -31,14 +28,14 @@ fn load(path: &str) -> Result<Vec<u8>, String> {
     read.map_err(|error| format!("{path}: {error}"))?;
     let (mut on, mut free) = ([0; MAX_POINTS], [0; MAX_POINTS]);
     let alone = read_table(&stored, &mut on, &mut free);
-    alone.map_err(|refusal| format!("{path}: {}", refused(refusal)))?;
+    alone.map_err(|refused| format!("{path}: {refused}"))?;
     Ok(stored)
 }
 
 fn compare(left: &str, right: &str) -> Result<(), Box<dyn Error>> {
     let (left, right) = (load(left)?, load(right)?);
     // Still to be refused: number 10, tables with different numbers of variables.
-    let found = differences(&left, &right).map_err(refused)?;
+    let found = differences(&left, &right)?;
     let total = found.total();
     let mut output = io::BufWriter::new(io::stdout());
     for Difference { point, left, right } in found {

@@ -1,19 +1,20 @@
 //! Writes the form of a stored table. Standard input holds the table, standard
 //! output gets the form's bytes. If the table or its form is refused, nothing is
-//! written there, `refused N` and why go to standard error, and the exit status is
-//! 1. To run it, in the folder of this package:
+//! written there, `refused N` and why go to standard error, with the place of the
+//! byte at fault where there is one, and the exit status is 1. To run it, in the
+//! folder of this package:
 //!
 //!     cargo run --example write_form <../tests/vectors/00005-p5.table | od -An -tx1
 //!
 //! Follows document 01, section "The written form".
 
-use glospruma::{read_table, write_form, Refusal, MAX_POINTS, TABLE_LENGTH, WRITTEN_ROOM};
+use glospruma::{read_table, write_form, Refused, MAX_POINTS, TABLE_LENGTH, WRITTEN_ROOM};
 use std::io::{self, Read, Write};
 use std::process::ExitCode;
 
 /// The form of a stored table. The rooms suffice for every table, so that no call
 /// is refused for want of room.
-fn form_of<'a>(stored: &[u8], room: &'a mut [u8; WRITTEN_ROOM]) -> Result<&'a [u8], Refusal> {
+fn form_of<'a>(stored: &[u8], room: &'a mut [u8; WRITTEN_ROOM]) -> Result<&'a [u8], Refused> {
     let (mut on, mut free) = ([0; MAX_POINTS], [0; MAX_POINTS]);
     let table = read_table(stored, &mut on, &mut free)?;
     let form = write_form(table.variables, table.on, table.free, room)?;
@@ -33,8 +34,8 @@ fn main() -> io::Result<ExitCode> {
             io::stdout().flush()?;
             Ok(ExitCode::SUCCESS)
         }
-        Err(refusal) => {
-            eprintln!("refused {}: {refusal}", u8::from(refusal));
+        Err(refused) => {
+            eprintln!("{refused}");
             Ok(ExitCode::FAILURE)
         }
     }

@@ -1,7 +1,7 @@
 //! Two stored tables side by side. Follows document 02, No. 1.
 
 use crate::raw;
-use crate::refusal::{check, Refusal};
+use crate::refusal::{check_bytes, Refused};
 use crate::DIFFERENCE_LENGTH;
 use std::fmt;
 use std::iter::FusedIterator;
@@ -111,15 +111,18 @@ impl<'a> Comparison<'a> {
 /// gets further; with [`COMPARISON_ROOM`](crate::COMPARISON_ROOM) one call lists
 /// all. [`differences`] makes all these calls by itself.
 ///
-/// Refusals [`Layout`](Refusal::Layout), [`Variables`](Refusal::Variables),
-/// [`Point`](Refusal::Point), [`Order`](Refusal::Order) of the left table, then the
-/// same of the right one, then [`Counts`](Refusal::Counts) and
-/// [`FirstPoint`](Refusal::FirstPoint); a room that runs short is no refusal. The
-/// refusal doesn't tell which table it is of: where that matters, read each with
-/// [`read_table`](crate::read_table) first.
+/// Refusals of the left table, as of [`read_table`] but for [`Room`], then the same of
+/// the right one, then [`Counts`] and [`FirstPoint`]; a room that runs short is no
+/// refusal. Neither the refusal nor its place tells which table it is of: where that
+/// matters, read each with [`read_table`] first.
+///
+/// [`read_table`]: crate::read_table
+/// [`Room`]: crate::Refusal::Room
+/// [`Counts`]: crate::Refusal::Counts
+/// [`FirstPoint`]: crate::Refusal::FirstPoint
 ///
 /// ```
-/// use glospruma::{compare, Difference, Mark, Refusal, DIFFERENCE_LENGTH};
+/// use glospruma::{compare, Difference, Mark, Refusal, Refused, DIFFERENCE_LENGTH};
 ///
 /// // The same bands of payload, cut at one site in short tons and at the next in
 /// // tonnes: on 4 5 6, free 7 in the one table, on 5 6 7 in the other.
@@ -137,17 +140,18 @@ impl<'a> Comparison<'a> {
 /// assert_eq!(rest.differences().next(), Some(expected));
 /// assert_eq!((rest.next, rest.total), (8, 2));
 ///
-/// assert_eq!(compare(&short_tons, &tonnes, 9, &mut room), Err(Refusal::FirstPoint));
-/// # Ok::<(), Refusal>(())
+/// let beyond = compare(&short_tons, &tonnes, 9, &mut room);
+/// assert_eq!(beyond, Err(Refusal::FirstPoint.into()));
+/// # Ok::<(), Refused>(())
 /// ```
 pub fn compare<'a>(
     left: &[u8],
     right: &[u8],
     first: usize,
     room: &'a mut [u8],
-) -> Result<Comparison<'a>, Refusal> {
+) -> Result<Comparison<'a>, Refused> {
     let found = raw::compare(left, right, first, room);
-    check(found.refusal)?;
+    check_bytes(found.refusal, found.place)?;
     Ok(Comparison {
         next: found.next,
         total: found.total,
@@ -177,10 +181,10 @@ pub struct Differences<'a> {
 
 /// All differences of two stored tables, without a room to lend; their number is
 /// known at once. Refusals as of [`compare`], but never
-/// [`FirstPoint`](Refusal::FirstPoint).
+/// [`FirstPoint`](crate::Refusal::FirstPoint).
 ///
 /// ```
-/// use glospruma::{differences, Difference, Mark, Refusal};
+/// use glospruma::{differences, Difference, Mark, Refusal, Refused};
 ///
 /// let short_tons = [0x4E, 3, 0x4F, 4, 0, 0x4F, 5, 0, 0x4F, 6, 0, 0x44, 7, 0, 0x45, 4, 0];
 /// let tonnes = [0x4E, 3, 0x4F, 5, 0, 0x4F, 6, 0, 0x4F, 7, 0, 0x45, 3, 0];
@@ -191,13 +195,14 @@ pub struct Differences<'a> {
 /// assert_eq!((found.len(), found.total()), (1, 2));
 /// assert_eq!(found.next().map(|differing| differing.point), Some(7));
 /// assert_eq!(found.next(), None);
-/// assert_eq!(differences(&short_tons, &[]).unwrap_err(), Refusal::Layout);
-/// # Ok::<(), Refusal>(())
+/// let cut = Refused { refusal: Refusal::BytesMissing, place: 4 };
+/// assert_eq!(differences(&short_tons, &tonnes[..4]).unwrap_err(), cut);
+/// # Ok::<(), Refused>(())
 /// ```
-pub fn differences<'a>(left: &'a [u8], right: &'a [u8]) -> Result<Differences<'a>, Refusal> {
+pub fn differences<'a>(left: &'a [u8], right: &'a [u8]) -> Result<Differences<'a>, Refused> {
     let mut room = [0; RECORDS * DIFFERENCE_LENGTH];
     let found = raw::compare(left, right, 0, &mut room);
-    check(found.refusal)?;
+    check_bytes(found.refusal, found.place)?;
     Ok(Differences {
         left,
         right,
@@ -223,8 +228,9 @@ impl Iterator for Differences<'_> {
             return None;
         }
         if self.given == self.found.records {
-            self.found = raw::compare(self.left, self.right, self.found.next, &mut self.room);
-            check(self.found.refusal).expect("the same tables were accepted");
+            let found = raw::compare(self.left, self.right, self.found.next, &mut self.room);
+            check_bytes(found.refusal, found.place).expect("the same tables were accepted");
+            self.found = found;
             self.given = 0;
         }
         let mut records = self.room.chunks_exact(DIFFERENCE_LENGTH);

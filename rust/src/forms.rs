@@ -2,7 +2,7 @@
 //! section "The written form"; docs/CALLS.md, "The bytes", has every rule.
 
 use crate::raw;
-use crate::refusal::{check, Refusal};
+use crate::refusal::{check, check_bytes, Refusal, Refused};
 
 /// The form written for a table.
 #[derive(Clone, Copy, Debug, PartialEq, Eq)]
@@ -54,22 +54,30 @@ pub struct FormPoints<'a> {
     pub points: &'a [u16],
 }
 
-/// Reads a form; its points go to the room. Refusals
-/// [`Layout`](Refusal::Layout), then [`Room`](Refusal::Room).
+/// Reads a form; its points go to the room. Refusals of the bytes, with their place:
+/// [`WrongKind`](Refusal::WrongKind), [`BytesMissing`](Refusal::BytesMissing),
+/// [`WrongVariables`](Refusal::WrongVariables),
+/// [`WrongFactor`](Refusal::WrongFactor), [`NotCanonical`](Refusal::NotCanonical),
+/// [`WrongCount`](Refusal::WrongCount), [`BytesAfter`](Refusal::BytesAfter),
+/// [`TooManyProducts`](Refusal::TooManyProducts); then [`Room`](Refusal::Room).
 ///
 /// ```
-/// use glospruma::{form_points, Refusal};
+/// use glospruma::{form_points, Refusal, Refused};
 ///
 /// let form = [0x4E, 3, 0x50, 0x58, 1, 7, 0, 0x45, 1, 0];
 /// let mut room = [0; 8];
 /// let found = form_points(&form, &mut room)?;
 /// assert_eq!((found.variables, found.points), (3, &[1, 2, 4, 7][..]));
-/// assert_eq!(form_points(&form[..9], &mut room), Err(Refusal::Layout));
-/// # Ok::<(), Refusal>(())
+///
+/// // The constant of the factor is 2.
+/// let damaged = [0x4E, 3, 0x50, 0x58, 2, 7, 0, 0x45, 1, 0];
+/// let refused = Refused { refusal: Refusal::WrongFactor, place: 4 };
+/// assert_eq!(form_points(&damaged, &mut room), Err(refused));
+/// # Ok::<(), Refused>(())
 /// ```
-pub fn form_points<'a>(bytes: &[u8], room: &'a mut [u16]) -> Result<FormPoints<'a>, Refusal> {
+pub fn form_points<'a>(bytes: &[u8], room: &'a mut [u16]) -> Result<FormPoints<'a>, Refused> {
     let found = raw::form_points(bytes, room);
-    check(found.refusal)?;
+    check_bytes(found.refusal, found.place)?;
     Ok(FormPoints {
         variables: found.variables,
         points: &room[..found.count],
@@ -83,21 +91,21 @@ pub struct RewrittenForm<'a> {
     pub bytes: &'a [u8],
 }
 
-/// Reads a form and writes what was read to the room: the same bytes. Refusals
-/// [`Layout`](Refusal::Layout), then [`Room`](Refusal::Room).
+/// Reads a form and writes what was read to the room: the same bytes. Refusals as of
+/// [`form_points`].
 ///
 /// ```
-/// use glospruma::{form_rewrite, Refusal};
+/// use glospruma::{form_rewrite, Refusal, Refused};
 ///
 /// let form = [0x4E, 1, 0x45, 0, 0];
 /// let mut room = [0; 5];
 /// assert_eq!(form_rewrite(&form, &mut room)?.bytes, form);
-/// assert_eq!(form_rewrite(&form, &mut room[..4]), Err(Refusal::Room));
-/// # Ok::<(), Refusal>(())
+/// assert_eq!(form_rewrite(&form, &mut room[..4]), Err(Refusal::Room.into()));
+/// # Ok::<(), Refused>(())
 /// ```
-pub fn form_rewrite<'a>(bytes: &[u8], room: &'a mut [u8]) -> Result<RewrittenForm<'a>, Refusal> {
+pub fn form_rewrite<'a>(bytes: &[u8], room: &'a mut [u8]) -> Result<RewrittenForm<'a>, Refused> {
     let found = raw::form_rewrite(bytes, room);
-    check(found.refusal)?;
+    check_bytes(found.refusal, found.place)?;
     Ok(RewrittenForm {
         bytes: &room[..found.length],
     })

@@ -9,7 +9,8 @@
 //! of free points; all other points are off. A call takes slices and lent rooms,
 //! allocates nothing and needs at most 128 KiB of stack. Its answer borrows the
 //! front of the room; the rest of the room is as it was. A refused call gives a
-//! [`Refusal`] and leaves every room as it was.
+//! [`Refusal`], or where it reads bytes a [`Refused`], which has the place of the
+//! fault beside it, and leaves every room as it was.
 //!
 //! ```
 //! use glospruma::{analyse, write_form, Refusal};
@@ -30,7 +31,7 @@
 //! with rooms that always suffice:
 //!
 //! ```
-//! use glospruma::{form_points, read_table, write_form, Refusal, MAX_POINTS, WRITTEN_ROOM};
+//! use glospruma::{form_points, read_table, write_form, Refused, MAX_POINTS, WRITTEN_ROOM};
 //!
 //! let stored = [0x4E, 3, 0x4F, 1, 0, 0x4F, 2, 0, 0x4F, 4, 0, 0x4F, 7, 0, 0x45, 4, 0];
 //! let (mut on, mut free) = ([0; MAX_POINTS], [0; MAX_POINTS]);
@@ -40,13 +41,13 @@
 //! assert_eq!(form.bytes, [0x4E, 3, 0x50, 0x58, 1, 7, 0, 0x45, 1, 0]);
 //! let mut points = [0; MAX_POINTS];
 //! assert_eq!(form_points(form.bytes, &mut points)?.points, table.on);
-//! # Ok::<(), Refusal>(())
+//! # Ok::<(), Refused>(())
 //! ```
 //!
 //! Where two stored tables differ:
 //!
 //! ```
-//! use glospruma::{differences, Refusal};
+//! use glospruma::{differences, Refused};
 //!
 //! let left = [0x4E, 2, 0x4F, 1, 0, 0x4F, 2, 0, 0x45, 2, 0];
 //! let right = [0x4E, 2, 0x4F, 1, 0, 0x44, 2, 0, 0x4F, 3, 0, 0x45, 3, 0];
@@ -55,7 +56,19 @@
 //! }
 //! # let points: Vec<u16> = differences(&left, &right)?.map(|differing| differing.point).collect();
 //! # assert_eq!(points, [2, 3]);
-//! # Ok::<(), Refusal>(())
+//! # Ok::<(), Refused>(())
+//! ```
+//!
+//! What is wrong with bytes, and where:
+//!
+//! ```
+//! use glospruma::read_table;
+//!
+//! // The kind 46 is unknown; a free point has 44.
+//! let stored = [0x4E, 2, 0x4F, 1, 0, 0x46, 2, 0, 0x45, 2, 0];
+//! let refused = read_table(&stored, &mut [0; 4], &mut [0; 4]).unwrap_err();
+//! let line = "refused 20 at 5: a kind byte is unknown, or stands where it can't";
+//! assert_eq!(refused.to_string(), line);
 //! ```
 //!
 //! [`raw`] has the same calls with their numbers as they come.
@@ -77,7 +90,7 @@ pub use comparison::{compare, differences, Comparison, Difference, Differences, 
 pub use forms::{form_points, form_rewrite, write_form, FormPoints, RewrittenForm, WrittenForm};
 pub use primes::{list_primes, Listing, Prime};
 pub use raw::{Basis, ShortList};
-pub use refusal::Refusal;
+pub use refusal::{Refusal, Refused};
 pub use spaces::{
     affine, analyse, complete, linear_space, AffineSpace, Analysis, Completion, LinearSpace,
 };
@@ -95,7 +108,7 @@ pub const MAX_POINTS: usize = 4096;
 /// The largest number of variables of a listing.
 pub const MAX_LISTED: usize = 6;
 
-/// Bytes of the longest stored table; a longer input isn't laid out as one.
+/// Bytes of the longest stored table; a longer input is refused.
 pub const TABLE_LENGTH: usize = 12_293;
 
 /// Room that always suffices for the form written for a table.

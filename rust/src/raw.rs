@@ -53,6 +53,8 @@ impl Basis {
 pub struct TableRead {
     /// 0, or the refusal number.
     pub refusal: u8,
+    /// The place that goes with refusals 20 to 27, else 0.
+    pub place: usize,
     /// The number n of variables.
     pub variables: usize,
     /// On points written.
@@ -67,6 +69,8 @@ pub struct TableRead {
 pub struct Comparison {
     /// 0, or the refusal number.
     pub refusal: u8,
+    /// The place that goes with refusals 20 to 27, else 0.
+    pub place: usize,
     /// Records written, 4 bytes each.
     pub records: usize,
     /// The point to go on from, or 2^n when done.
@@ -169,6 +173,8 @@ pub struct FormWritten {
 pub struct FormPoints {
     /// 0, or the refusal number.
     pub refusal: u8,
+    /// The place that goes with refusals 20 to 27, else 0.
+    pub place: usize,
     /// The number n of variables.
     pub variables: usize,
     /// Points written.
@@ -181,6 +187,8 @@ pub struct FormPoints {
 pub struct FormRewrite {
     /// 0, or the refusal number.
     pub refusal: u8,
+    /// The place that goes with refusals 20 to 27, else 0.
+    pub place: usize,
     /// Bytes written.
     pub length: usize,
 }

@@ -5,8 +5,8 @@
 //! watches memory sees each access beyond. Follows document 02, No. 1.
 
 use glospruma::{
-    compare, differences, raw, Difference, Mark, Refusal, COMPARISON_ROOM, DIFFERENCE_LENGTH,
-    MAX_POINTS, MAX_VARIABLES,
+    compare, differences, raw, Difference, Mark, Refusal, Refused, COMPARISON_ROOM,
+    DIFFERENCE_LENGTH, MAX_POINTS, MAX_VARIABLES,
 };
 use Mark::{Free, Off, On};
 
@@ -161,7 +161,7 @@ fn ends_of_first_points() {
     assert_eq!((end.next, end.total, end.records), (8, 3, &[][..]));
     for first in [9, 65_536, usize::MAX] {
         let beyond = compare(&left, &right, first, &mut room);
-        assert_eq!(beyond, Err(Refusal::FirstPoint));
+        assert_eq!(beyond, Err(Refusal::FirstPoint.into()));
     }
     assert_eq!(room, [PAINT; 4]);
 }
@@ -205,47 +205,54 @@ fn iterator_at_the_ends_of_its_room() {
     }
 }
 
-/// The left table's refusal, then the right one's, then those of both. The room is
-/// as it was, and the other numbers are 0.
+/// The comparison is refused so, with every other number 0 and the room as it was.
+fn assert_refused(left: &[u8], right: &[u8], first: usize, refused: Refused) {
+    let Refused { refusal, place } = refused;
+    let mut room = vec![PAINT; 12];
+    assert_eq!(compare(left, right, first, &mut room), Err(refused));
+    let numbers = raw::Comparison {
+        refusal: refusal.into(),
+        place,
+        ..raw::Comparison::default()
+    };
+    assert_eq!(raw::compare(left, right, first, &mut room), numbers);
+    assert_eq!(room, [PAINT; 12]);
+    if refusal != Refusal::FirstPoint {
+        assert_eq!(differences(left, right).unwrap_err(), refused);
+    }
+}
+
+/// The left table's refusal, with its place, then the right one's, then those of
+/// both.
 #[test]
 fn refusals() {
     let good = short_tons();
     let other = stored(&[Off, On, Off, On]);
-    let layout: Vec<u8> = good[..good.len() - 1].to_vec();
+    let cut: Vec<u8> = good[..good.len() - 1].to_vec();
+    let kind = vec![0x4E, 3, 0x46, 1, 0, 0x45, 1, 0];
     let variables = vec![0x4E, 13, 0x45, 0, 0];
     let point = vec![0x4E, 3, 0x4F, 8, 0, 0x45, 1, 0];
     let order = vec![0x4E, 3, 0x4F, 1, 0, 0x44, 1, 0, 0x45, 2, 0];
     let faulty = [
-        (&layout, Refusal::Layout),
-        (&variables, Refusal::Variables),
-        (&point, Refusal::Point),
-        (&order, Refusal::Order),
+        (&cut, Refusal::BytesMissing, cut.len()),
+        (&kind, Refusal::WrongKind, 2),
+        (&variables, Refusal::Variables, 0),
+        (&point, Refusal::Point, 0),
+        (&order, Refusal::Order, 0),
     ];
-    let mut cases = vec![
-        (&good, &other, 0, Refusal::Counts),
-        (&other, &good, usize::MAX, Refusal::Counts),
-        (&good, &good, 9, Refusal::FirstPoint),
-        (&other, &other, 5, Refusal::FirstPoint),
-    ];
-    for (bytes, refusal) in faulty {
-        cases.push((bytes, &good, 0, refusal));
-        cases.push((&good, bytes, 9, refusal));
-        cases.push((&other, bytes, 0, refusal));
-        cases.extend(faulty.map(|(right, _)| (bytes, right, 9, refusal)));
-    }
-    for (left, right, first, refusal) in cases {
-        let mut room = vec![PAINT; 12];
-        assert_eq!(compare(left, right, first, &mut room), Err(refusal));
-        let numbers = raw::Comparison {
-            refusal: refusal.into(),
-            ..raw::Comparison::default()
-        };
-        assert_eq!(raw::compare(left, right, first, &mut room), numbers);
-        assert_eq!(room, [PAINT; 12]);
-        if refusal != Refusal::FirstPoint {
-            assert_eq!(differences(left, right).unwrap_err(), refusal);
+    for (bytes, refusal, place) in faulty {
+        let refused = Refused { refusal, place };
+        assert_refused(bytes, &good, 0, refused);
+        assert_refused(&good, bytes, 9, refused);
+        assert_refused(&other, bytes, 0, refused);
+        for (right, ..) in faulty {
+            assert_refused(bytes, right, 9, refused);
         }
     }
+    assert_refused(&good, &other, 0, Refusal::Counts.into());
+    assert_refused(&other, &good, usize::MAX, Refusal::Counts.into());
+    assert_refused(&good, &good, 9, Refusal::FirstPoint.into());
+    assert_refused(&other, &other, 5, Refusal::FirstPoint.into());
 }
 
 #[test]

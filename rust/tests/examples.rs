@@ -242,14 +242,10 @@ fn refusals_of_single_calls() {
     let listed = list_primes(7, &[1], &[], 0, 1, &mut bytes);
     assert_eq!(listed, Err(Refusal::Size));
     assert_eq!(write_form(7, &[1], &[], &mut bytes), Err(Refusal::Size));
-    assert_eq!(form_points(&P5_FORM, &mut points), Err(Refusal::Room));
-    assert_eq!(
-        form_points(&P5_FORM[1..], &mut points),
-        Err(Refusal::Layout)
-    );
+    let short = form_points(&P5_FORM, &mut points);
+    assert_eq!(short, Err(Refusal::Room.into()));
     let short = form_rewrite(&P5_FORM, &mut bytes[..18]);
-    assert_eq!(short, Err(Refusal::Room));
-    assert_eq!(form_rewrite(&[], &mut bytes), Err(Refusal::Layout));
+    assert_eq!(short, Err(Refusal::Room.into()));
     assert_eq!((points, bytes), (vec![9; 4], vec![9; 30]));
 }
 
@@ -258,25 +254,26 @@ fn refusals_of_stored_tables() {
     let bytes = [0x4E, 2, 0x4F, 0, 0, 0x44, 1, 0, 0x44, 2, 0, 0x45, 3, 0];
     let (mut on, mut free) = (vec![9; 1], vec![9; 1]);
     let short = read_table(&bytes, &mut on, &mut free);
-    assert_eq!(short, Err(Refusal::Room));
-    let cut = read_table(&bytes[..13], &mut on, &mut free);
-    assert_eq!(cut, Err(Refusal::Layout));
+    assert_eq!(short, Err(Refusal::Room.into()));
+    let point = read_table(&[0x4E, 1, 0x4F, 2, 0, 0x45, 1, 0], &mut on, &mut free);
+    assert_eq!(point, Err(Refusal::Point.into()));
     assert_eq!((on, free), (vec![9; 1], vec![9; 1]));
-    let mut room = vec![9; 10];
+    let mut room = vec![9; 17];
     let refused = report(&bytes[..13], &mut room).expect("accepted");
-    assert_eq!(refused.text, "refused 8\n");
+    assert_eq!(refused.text, "refused 21 at 13\n");
     assert_eq!(report(&bytes, &mut room), Err(Refusal::Room));
-    assert_eq!(room, b"refused 8\n");
+    assert_eq!(room, b"refused 21 at 13\n");
 }
 
+/// 8 was the one number of all refused bytes up to version 0.3, and is unused.
 #[test]
 fn numbers_of_refusals() {
-    for (place, refusal) in Refusal::ALL.into_iter().enumerate() {
-        let number = place as u8 + 1;
-        assert_eq!(u8::from(refusal), number);
-        assert_eq!(Refusal::try_from(number), Ok(refusal));
+    let given: Vec<u8> = (1..=7).chain(9..=11).chain(20..=27).collect();
+    assert_eq!(Refusal::ALL.map(u8::from).to_vec(), given);
+    for refusal in Refusal::ALL {
+        assert_eq!(Refusal::try_from(u8::from(refusal)), Ok(refusal));
     }
-    for number in (0..=255).filter(|number| !(1..=11).contains(number)) {
+    for number in (0..=255).filter(|number| !given.contains(number)) {
         assert_eq!(Refusal::try_from(number), Err(number));
     }
 }
@@ -286,15 +283,15 @@ fn numbers_of_refusals() {
 fn layout_of_numbers() {
     assert_eq!(size_of::<raw::ShortList>(), 32);
     assert_eq!(size_of::<raw::Basis>(), 32);
-    assert_eq!(size_of::<raw::TableRead>(), 32);
-    assert_eq!(size_of::<raw::Comparison>(), 32);
+    assert_eq!(size_of::<raw::TableRead>(), 40);
+    assert_eq!(size_of::<raw::Comparison>(), 40);
     assert_eq!(size_of::<raw::LinearSpace>(), 48);
     assert_eq!(size_of::<raw::Completion>(), 40);
     assert_eq!(size_of::<raw::Analysis>(), 120);
     assert_eq!(size_of::<raw::Affine>(), 56);
     assert_eq!(size_of::<raw::Listed>(), 32);
     assert_eq!(size_of::<raw::FormWritten>(), 24);
-    assert_eq!(size_of::<raw::FormPoints>(), 24);
-    assert_eq!(size_of::<raw::FormRewrite>(), 16);
+    assert_eq!(size_of::<raw::FormPoints>(), 32);
+    assert_eq!(size_of::<raw::FormRewrite>(), 24);
     assert_eq!(size_of::<raw::Report>(), 16);
 }

@@ -1,6 +1,6 @@
-/* Document 01's examples P1 to P9 and two tables side by side through include/glospruma.h, refusals of every number with lent memory compared,
- * and the layout of the answers. Prints how many cases passed, `N passed, 0 failed`, or what differs, and then exits with 1. To build and run it,
- * in the folder of the repository:
+/* Document 01's examples P1 to P9 and two tables side by side through include/glospruma.h, refusals of every number with lent memory compared, of
+ * bytes also the place, and the layout of the answers. Prints how many cases passed, `N passed, 0 failed`, or what differs, and then exits with 1. To
+ * build and run it, in the folder of the repository:
  *
  *     cc -std=c99 -Wall -Wextra -Werror -pedantic -Iinclude tests/c/examples.c target/staticlib/libglospruma.a -o target/examples && target/examples
  *
@@ -143,9 +143,9 @@ static void check_form(size_t n, const uint16_t *on_points, size_t on_count, con
     CHECK(bytes_are(written, form, form_length));
     CHECK(refused.refusal == GLOSPRUMA_ROOM && refused.length == 0 && refused.products == 0);
     CHECK(bytes_as_lent(short_room));
-    CHECK(read.refusal == GLOSPRUMA_ACCEPTED && read.variables == n && read.count == on_count);
+    CHECK(read.refusal == GLOSPRUMA_ACCEPTED && read.place == 0 && read.variables == n && read.count == on_count);
     CHECK(points_are(room, on_points, on_count));
-    CHECK(rewrote.refusal == GLOSPRUMA_ACCEPTED && rewrote.length == form_length);
+    CHECK(rewrote.refusal == GLOSPRUMA_ACCEPTED && rewrote.place == 0 && rewrote.length == form_length);
     CHECK(bytes_are(again, form, form_length));
     free(on.points);
     free(none.points);
@@ -253,7 +253,8 @@ static void p5_read_and_reported(void) {
     glospruma_table_read read = glospruma_read_table(stored.bytes, stored.length, on.points, on.length, none.points, none.length);
     glospruma_report_written report = glospruma_report(stored.bytes, stored.length, text.bytes, text.length);
     glospruma_report_written refused = glospruma_report(stored.bytes, stored.length, short_text.bytes, short_text.length);
-    CHECK(read.refusal == GLOSPRUMA_ACCEPTED && read.variables == 4 && read.on_count == LENGTH(p5_on) && read.free_count == 0);
+    CHECK(read.refusal == GLOSPRUMA_ACCEPTED && read.place == 0);
+    CHECK(read.variables == 4 && read.on_count == LENGTH(p5_on) && read.free_count == 0);
     CHECK(points_are(on, p5_on, LENGTH(p5_on)));
     CHECK(report.refusal == GLOSPRUMA_ACCEPTED && report.length == sizeof p5_report - 1);
     CHECK(bytes_are(text, (const uint8_t *)p5_report, sizeof p5_report - 1));
@@ -382,7 +383,7 @@ static void side_by_side(void) {
     glospruma_comparison found = compare(left, right, 0, room);
     glospruma_comparison other = compare(right, left, 0, other_room);
     glospruma_comparison same = compare(left, left, 0, untouched);
-    CHECK(found.refusal == GLOSPRUMA_ACCEPTED && found.records == 3 && found.next == 8 && found.total == 3);
+    CHECK(found.refusal == GLOSPRUMA_ACCEPTED && found.place == 0 && found.records == 3 && found.next == 8 && found.total == 3);
     CHECK(bytes_are(room, sites_records, sizeof sites_records));
     CHECK(other.refusal == GLOSPRUMA_ACCEPTED && other.records == 3 && other.next == 8 && other.total == 3);
     CHECK(bytes_are(other_room, exchanged, sizeof exchanged));
@@ -406,7 +407,8 @@ static void side_by_side_in_pieces(void) {
             size_t records = ahead < fits ? ahead : fits;
             bytes room = byte_room(length);
             glospruma_comparison found = compare(left, right, first, room);
-            CHECK(found.refusal == GLOSPRUMA_ACCEPTED && found.records == records && found.total == LENGTH(sites_points));
+            CHECK(found.refusal == GLOSPRUMA_ACCEPTED && found.place == 0);
+            CHECK(found.records == records && found.total == LENGTH(sites_points));
             CHECK(found.next == (records < ahead ? sites_points[behind + records] : 8));
             CHECK(bytes_are(room, sites_records + GLOSPRUMA_DIFFERENCE_LENGTH * behind, GLOSPRUMA_DIFFERENCE_LENGTH * records));
         }
@@ -438,37 +440,48 @@ static void side_by_side_everywhere(void) {
     free(room.bytes);
 }
 
-static void check_refused_comparison(bytes left, bytes right, size_t first, uint8_t refusal) {
+/* A refusal number and the place that goes with it. */
+typedef struct {
+    uint8_t refusal;
+    size_t place;
+} fault;
+
+static void check_refused_comparison(bytes left, bytes right, size_t first, fault expected) {
     bytes room = byte_room(sizeof sites_records);
     glospruma_comparison found = compare(left, right, first, room);
-    CHECK(found.refusal == refusal && found.records == 0 && found.next == 0 && found.total == 0);
+    CHECK(found.refusal == expected.refusal && found.place == expected.place);
+    CHECK(found.records == 0 && found.next == 0 && found.total == 0);
     CHECK(bytes_as_lent(room));
 }
 
-/* The left table's refusals, then the right one's, then those of both. */
+/* The left table's refusals, with place, then the right one's, then those of both. */
 static void refused_comparisons(void) {
-    static const uint8_t cut[] = {0x4E, 3, 0x45, 0}, thirteen[] = {0x4E, 13, 0x45, 0, 0}, large[] = {0x4E, 3, 0x4F, 8, 0, 0x45, 1, 0};
-    static const uint8_t twice[] = {0x4E, 3, 0x4F, 1, 0, 0x44, 1, 0, 0x45, 2, 0};
-    static const uint8_t refusals[] = {GLOSPRUMA_LAYOUT, GLOSPRUMA_VARIABLES, GLOSPRUMA_POINT, GLOSPRUMA_ORDER};
-    bytes faults[LENGTH(refusals)], left = stored_marks(3, SHORT_TONS), right = stored_marks(3, TONNES), small = stored_marks(2, "01-1");
+    static const uint8_t cut[] = {0x4E, 3, 0x45, 0}, unknown[] = {0x4E, 3, 0x46, 1, 0, 0x45, 1, 0}, thirteen[] = {0x4E, 13, 0x45, 0, 0};
+    static const uint8_t large[] = {0x4E, 3, 0x4F, 8, 0, 0x45, 1, 0}, twice[] = {0x4E, 3, 0x4F, 1, 0, 0x44, 1, 0, 0x45, 2, 0};
+    static const fault expected[] = {
+        {GLOSPRUMA_BYTES_MISSING, 4}, {GLOSPRUMA_WRONG_KIND, 2}, {GLOSPRUMA_VARIABLES, 0}, {GLOSPRUMA_POINT, 0}, {GLOSPRUMA_ORDER, 0},
+    };
+    static const fault counts = {GLOSPRUMA_COUNTS, 0}, first_point = {GLOSPRUMA_FIRST_POINT, 0};
+    bytes faults[LENGTH(expected)], left = stored_marks(3, SHORT_TONS), right = stored_marks(3, TONNES), small = stored_marks(2, "01-1");
     size_t one, other;
     faults[0] = byte_list(cut, sizeof cut);
-    faults[1] = byte_list(thirteen, sizeof thirteen);
-    faults[2] = byte_list(large, sizeof large);
-    faults[3] = byte_list(twice, sizeof twice);
-    for (one = 0; one < LENGTH(refusals); one++) {
-        check_refused_comparison(faults[one], right, 0, refusals[one]);
-        check_refused_comparison(left, faults[one], 0, refusals[one]);
-        check_refused_comparison(small, faults[one], SIZE_MAX, refusals[one]);
-        for (other = 0; other < LENGTH(refusals); other++) {
-            check_refused_comparison(faults[one], faults[other], SIZE_MAX, refusals[one]);
+    faults[1] = byte_list(unknown, sizeof unknown);
+    faults[2] = byte_list(thirteen, sizeof thirteen);
+    faults[3] = byte_list(large, sizeof large);
+    faults[4] = byte_list(twice, sizeof twice);
+    for (one = 0; one < LENGTH(expected); one++) {
+        check_refused_comparison(faults[one], right, 0, expected[one]);
+        check_refused_comparison(left, faults[one], 0, expected[one]);
+        check_refused_comparison(small, faults[one], SIZE_MAX, expected[one]);
+        for (other = 0; other < LENGTH(expected); other++) {
+            check_refused_comparison(faults[one], faults[other], SIZE_MAX, expected[one]);
         }
     }
-    check_refused_comparison(left, small, 0, GLOSPRUMA_COUNTS);
-    check_refused_comparison(small, right, SIZE_MAX, GLOSPRUMA_COUNTS);
-    check_refused_comparison(left, right, 9, GLOSPRUMA_FIRST_POINT);
-    check_refused_comparison(left, left, SIZE_MAX, GLOSPRUMA_FIRST_POINT);
-    for (one = 0; one < LENGTH(refusals); one++) {
+    check_refused_comparison(left, small, 0, counts);
+    check_refused_comparison(small, right, SIZE_MAX, counts);
+    check_refused_comparison(left, right, 9, first_point);
+    check_refused_comparison(left, left, SIZE_MAX, first_point);
+    for (one = 0; one < LENGTH(expected); one++) {
         free(faults[one].bytes);
     }
     free(left.bytes);
@@ -544,33 +557,134 @@ static void refused_sizes(void) {
     free(on.points);
 }
 
-/* Every cut of P5's form and of its stored table is refused, and so is a short room for either. */
-static void refused_bytes(void) {
+/* A form that both calls which read forms refuse. */
+static void check_refused_form(const uint8_t *form, size_t length, fault expected) {
+    bytes list = byte_list(form, length), room = byte_room(30);
+    points point_rest = point_room(16);
+    glospruma_points_read read = glospruma_form_points(list.bytes, list.length, point_rest.points, point_rest.length);
+    glospruma_form_rewritten rewrote = glospruma_form_rewrite(list.bytes, list.length, room.bytes, room.length);
+    CHECK(read.refusal == expected.refusal && read.place == expected.place && read.variables == 0 && read.count == 0);
+    CHECK(rewrote.refusal == expected.refusal && rewrote.place == expected.place && rewrote.length == 0);
+    CHECK(points_as_lent(point_rest));
+    CHECK(bytes_as_lent(room));
+    free(list.bytes);
+}
+
+/* A stored table that is refused, and the line that is its report. */
+static void check_refused_stored(const uint8_t *stored, size_t length, fault expected) {
+    char line[40];
+    size_t line_length;
+    bytes list = byte_list(stored, length), text = byte_room(sizeof line);
+    points on = point_room(10), others = point_room(10);
+    glospruma_table_read read = glospruma_read_table(list.bytes, list.length, on.points, on.length, others.points, others.length);
+    glospruma_report_written report = glospruma_report(list.bytes, list.length, text.bytes, text.length);
+    if (glospruma_refusal_has_place(expected.refusal)) {
+        line_length = (size_t)sprintf(line, "refused %u at %lu\n", (unsigned)expected.refusal, (unsigned long)expected.place);
+    } else {
+        line_length = (size_t)sprintf(line, "refused %u\n", (unsigned)expected.refusal);
+    }
+    CHECK(read.refusal == expected.refusal && read.place == expected.place);
+    CHECK(read.variables == 0 && read.on_count == 0 && read.free_count == 0);
+    CHECK(points_as_lent(on));
+    CHECK(points_as_lent(others));
+    CHECK(report.refusal == GLOSPRUMA_ACCEPTED && report.length == line_length);
+    CHECK(bytes_are(text, (const uint8_t *)line, line_length));
+    free(list.bytes);
+}
+
+/* Every cut of P5's form and of its stored table is refused: bytes are missing where it ends. */
+static void cut_bytes(void) {
     bytes stored = p5_stored();
+    fault missing = {GLOSPRUMA_BYTES_MISSING, 0};
+    for (missing.place = 0; missing.place < LENGTH(p5_form); missing.place++) {
+        check_refused_form(p5_form, missing.place, missing);
+    }
+    for (missing.place = 0; missing.place < stored.length; missing.place++) {
+        check_refused_stored(stored.bytes, missing.place, missing);
+    }
+    free(stored.bytes);
+}
+
+/* Bytes that are refused, and how. */
+typedef struct {
+    uint8_t bytes[20];
     size_t length;
-    for (length = 0; length < LENGTH(p5_form); length++) {
-        bytes cut = byte_list(p5_form, length), room = byte_room(30);
-        points point_rest = point_room(16);
-        glospruma_points_read read = glospruma_form_points(cut.bytes, cut.length, point_rest.points, point_rest.length);
-        glospruma_form_rewritten rewrote = glospruma_form_rewrite(cut.bytes, cut.length, room.bytes, room.length);
-        CHECK(read.refusal == GLOSPRUMA_LAYOUT && read.variables == 0 && read.count == 0);
-        CHECK(rewrote.refusal == GLOSPRUMA_LAYOUT && rewrote.length == 0);
-        CHECK(points_as_lent(point_rest));
-        CHECK(bytes_as_lent(room));
-        free(cut.bytes);
+    fault expected;
+} damaged;
+
+/* Every fault of a short form, and two at a time: the first from the left counts, and at one byte the smaller number. */
+static void refused_forms(void) {
+    static const damaged forms[] = {
+        {{0x4F, 4}, 2, {GLOSPRUMA_WRONG_KIND, 0}},
+        {{0x4E, 4, 0x58, 1, 4, 0, 0x45, 0, 0}, 9, {GLOSPRUMA_WRONG_KIND, 2}},
+        {{0x4E, 4, 0x50, 0x4F, 1, 0, 0x45, 1, 0}, 9, {GLOSPRUMA_WRONG_KIND, 3}},
+        {{0x4E, 0}, 2, {GLOSPRUMA_WRONG_VARIABLES, 1}},
+        {{0x4E, 13, 0x46}, 3, {GLOSPRUMA_WRONG_VARIABLES, 1}},
+        {{0x4E, 4, 0x50, 0x58, 2, 4, 0, 0x45, 1, 0}, 10, {GLOSPRUMA_WRONG_FACTOR, 4}},
+        {{0x4E, 4, 0x50, 0x58, 1, 0, 0, 0x45, 1, 0}, 10, {GLOSPRUMA_WRONG_FACTOR, 4}},
+        {{0x4E, 4, 0x50, 0x58, 1, 16, 0, 0x45, 1, 0}, 10, {GLOSPRUMA_WRONG_FACTOR, 4}},
+        {{0x4E, 4, 0x50, 0x58, 2, 4}, 6, {GLOSPRUMA_BYTES_MISSING, 6}},
+        {{0x4E, 4, 0x50, 0x58, 1, 4, 0, 0x58, 1, 12, 0, 0x45, 1, 0}, 14, {GLOSPRUMA_NOT_CANONICAL, 8}},
+        {{0x4E, 4, 0x50, 0x58, 1, 4, 0, 0x58, 2, 4, 0, 0x45, 9, 0}, 14, {GLOSPRUMA_WRONG_FACTOR, 8}},
+        {{0x4E, 4, 0x50, 0x45, 2, 0, 0}, 7, {GLOSPRUMA_WRONG_COUNT, 4}},
+        {{0x4E, 4, 0x50, 0x45, 1, 1}, 6, {GLOSPRUMA_WRONG_COUNT, 4}},
+        {{0x4E, 4, 0x50, 0x45, 1, 0, 0x45, 1, 0}, 9, {GLOSPRUMA_BYTES_AFTER, 6}},
+    };
+    size_t place;
+    for (place = 0; place < LENGTH(forms); place++) {
+        check_refused_form(forms[place].bytes, forms[place].length, forms[place].expected);
     }
-    for (length = 0; length < stored.length; length++) {
-        bytes cut = byte_list(stored.bytes, length), text = byte_room(10);
-        points on = point_room(10), others = point_room(10);
-        glospruma_table_read read = glospruma_read_table(cut.bytes, cut.length, on.points, on.length, others.points, others.length);
-        glospruma_report_written report = glospruma_report(cut.bytes, cut.length, text.bytes, text.length);
-        CHECK(read.refusal == GLOSPRUMA_LAYOUT && read.variables == 0 && read.on_count == 0 && read.free_count == 0);
-        CHECK(points_as_lent(on));
-        CHECK(points_as_lent(others));
-        CHECK(report.refusal == GLOSPRUMA_ACCEPTED && report.length == 10);
-        CHECK(bytes_are(text, (const uint8_t *)"refused 8\n", 10));
-        free(cut.bytes);
+}
+
+/* A 65th product is one too many, whatever follows its kind. */
+static void too_many_products(void) {
+    static const fault expected = {GLOSPRUMA_TOO_MANY_PRODUCTS, 66};
+    bytes form = byte_room(2 + 65 + 3);
+    size_t length;
+    memset(form.bytes, 0x50, form.length);
+    form.bytes[0] = 0x4E;
+    form.bytes[1] = 1;
+    for (length = 2 + 65; length <= form.length; length++) {
+        check_refused_form(form.bytes, length, expected);
     }
+    free(form.bytes);
+}
+
+/* The refusals of stored tables: those of their bytes, and then 1, 2 and 3 without a place. */
+static void refused_stored_tables(void) {
+    static const damaged tables[] = {
+        {{0x4F, 1, 0}, 3, {GLOSPRUMA_WRONG_KIND, 0}},
+        {{0x4E, 2, 0x50, 0x45, 1, 0}, 6, {GLOSPRUMA_WRONG_KIND, 2}},
+        {{0x4E, 0, 0x4F, 1, 0, 0x45, 2, 0}, 8, {GLOSPRUMA_WRONG_COUNT, 6}},
+        {{0x4E, 2, 0x4F, 1, 0, 0x44, 2, 0, 0x45, 2, 1, 7}, 12, {GLOSPRUMA_WRONG_COUNT, 9}},
+        {{0x4E, 13, 0x45, 0, 0, 0x46}, 6, {GLOSPRUMA_BYTES_AFTER, 5}},
+        {{0x4E, 0, 0x4F, 1, 0, 0x45, 1, 0}, 8, {GLOSPRUMA_VARIABLES, 0}},
+        {{0x4E, 2, 0x4F, 4, 0, 0x45, 1, 0}, 8, {GLOSPRUMA_POINT, 0}},
+        {{0x4E, 2, 0x4F, 1, 0, 0x44, 1, 0, 0x45, 2, 0}, 11, {GLOSPRUMA_ORDER, 0}},
+    };
+    size_t place;
+    for (place = 0; place < LENGTH(tables); place++) {
+        check_refused_stored(tables[place].bytes, tables[place].length, tables[place].expected);
+    }
+}
+
+/* 4,097 points fill the longest table, so that its end is missing; a byte more is one after the end, whatever it is, but an earlier fault counts. */
+static void longest_stored_tables(void) {
+    static const fault missing = {GLOSPRUMA_BYTES_MISSING, GLOSPRUMA_TABLE_LENGTH}, after = {GLOSPRUMA_BYTES_AFTER, GLOSPRUMA_TABLE_LENGTH};
+    static const fault earlier = {GLOSPRUMA_WRONG_KIND, GLOSPRUMA_TABLE_LENGTH - 3};
+    bytes stored = byte_room(GLOSPRUMA_TABLE_LENGTH + 1);
+    size_t place;
+    memset(stored.bytes, 0, stored.length);
+    stored.bytes[0] = 0x4E;
+    for (place = 2; place < stored.length; place += 3) {
+        stored.bytes[place] = 0x4F;
+    }
+    check_refused_stored(stored.bytes, GLOSPRUMA_TABLE_LENGTH, missing);
+    check_refused_stored(stored.bytes, stored.length, after);
+    stored.bytes[GLOSPRUMA_TABLE_LENGTH] = 0x46;
+    check_refused_stored(stored.bytes, stored.length, after);
+    stored.bytes[GLOSPRUMA_TABLE_LENGTH - 3] = 0x46;
+    check_refused_stored(stored.bytes, stored.length, earlier);
     free(stored.bytes);
 }
 
@@ -580,13 +694,20 @@ static void short_rooms(void) {
     for (length = 0; length < LENGTH(p5_on); length++) {
         points room = point_room(length);
         glospruma_points_read read = glospruma_form_points(p5_form, sizeof p5_form, room.points, room.length);
-        CHECK(read.refusal == GLOSPRUMA_ROOM && read.variables == 0 && read.count == 0);
+        CHECK(read.refusal == GLOSPRUMA_ROOM && read.place == 0 && read.variables == 0 && read.count == 0);
         CHECK(points_as_lent(room));
+    }
+    for (length = 0; length < LENGTH(p5_form); length++) {
+        bytes room = byte_room(length);
+        glospruma_form_rewritten rewrote = glospruma_form_rewrite(p5_form, sizeof p5_form, room.bytes, room.length);
+        CHECK(rewrote.refusal == GLOSPRUMA_ROOM && rewrote.place == 0 && rewrote.length == 0);
+        CHECK(bytes_as_lent(room));
     }
     for (length = 0; length < 4; length++) {
         points on = point_room(length % 2), others = point_room(length / 2);
         glospruma_table_read read = glospruma_read_table(table, sizeof table, on.points, on.length, others.points, others.length);
-        CHECK(read.refusal == GLOSPRUMA_ROOM && read.variables == 0 && read.on_count == 0 && read.free_count == 0);
+        CHECK(read.refusal == GLOSPRUMA_ROOM && read.place == 0);
+        CHECK(read.variables == 0 && read.on_count == 0 && read.free_count == 0);
         CHECK(points_as_lent(on));
         CHECK(points_as_lent(others));
     }
@@ -595,31 +716,46 @@ static void short_rooms(void) {
 /* The sizes that the Rust package's tests ask of its structs too. */
 static void layout(void) {
     CHECK(sizeof(glospruma_short_list) == 32 && sizeof(glospruma_basis) == 32);
-    CHECK(sizeof(glospruma_table_read) == 32 && offsetof(glospruma_table_read, variables) == 8);
-    CHECK(sizeof(glospruma_comparison) == 32 && offsetof(glospruma_comparison, total) == 24);
+    CHECK(sizeof(glospruma_table_read) == 40 && offsetof(glospruma_table_read, place) == 8);
+    CHECK(offsetof(glospruma_table_read, variables) == 16);
+    CHECK(sizeof(glospruma_comparison) == 40 && offsetof(glospruma_comparison, place) == 8 && offsetof(glospruma_comparison, total) == 32);
     CHECK(sizeof(glospruma_space) == 48 && offsetof(glospruma_space, basis) == 16);
     CHECK(sizeof(glospruma_completion) == 40);
     CHECK(sizeof(glospruma_analysis) == 120 && offsetof(glospruma_analysis, count) == 112);
     CHECK(sizeof(glospruma_affine_space) == 56 && offsetof(glospruma_affine_space, least) == 2);
     CHECK(sizeof(glospruma_listed) == 32);
     CHECK(sizeof(glospruma_form_written) == 24);
-    CHECK(sizeof(glospruma_points_read) == 24);
-    CHECK(sizeof(glospruma_form_rewritten) == 16);
+    CHECK(sizeof(glospruma_points_read) == 32 && offsetof(glospruma_points_read, place) == 8);
+    CHECK(sizeof(glospruma_form_rewritten) == 24 && offsetof(glospruma_form_rewritten, place) == 8);
     CHECK(sizeof(glospruma_report_written) == 16);
 }
 
-/* The words of the refusals: each number has its own, and a number that no call gives has those of none. What they say is compared with the
+/* Whether some call gives a number: 8 was that of all faults of bytes up to version 0.3, and is unused. */
+static int is_given(unsigned number) {
+    return number <= GLOSPRUMA_FIRST_POINT ? number != 8 : number >= GLOSPRUMA_WRONG_KIND && number <= GLOSPRUMA_TOO_MANY_PRODUCTS;
+}
+
+/* The words of the refusals: each number has its own, and the numbers that no call gives have those of none. What they say is compared with the
  * documents elsewhere. */
 static void texts(void) {
+    const char *none = glospruma_refusal_text(UINT8_MAX);
     unsigned first, second;
-    for (first = GLOSPRUMA_ACCEPTED; first <= GLOSPRUMA_FIRST_POINT + 1; first++) {
+    for (first = GLOSPRUMA_ACCEPTED; first < UINT8_MAX; first++) {
         CHECK(strlen(glospruma_refusal_text(first)) > 0);
-        for (second = GLOSPRUMA_ACCEPTED; second < first; second++) {
+        CHECK((strcmp(glospruma_refusal_text(first), none) != 0) == is_given(first));
+        for (second = GLOSPRUMA_ACCEPTED; second < first && is_given(first); second++) {
             CHECK(strcmp(glospruma_refusal_text(first), glospruma_refusal_text(second)) != 0);
         }
     }
-    CHECK(strcmp(glospruma_refusal_text(UINT8_MAX), glospruma_refusal_text(GLOSPRUMA_FIRST_POINT + 1)) == 0);
     CHECK(strlen(GLOSPRUMA_VERSION) > 0);
+}
+
+/* A place goes with 20 to 27 alone. */
+static void numbers_with_a_place(void) {
+    unsigned number;
+    for (number = 0; number <= UINT8_MAX; number++) {
+        CHECK(glospruma_refusal_has_place(number) == (number >= 20 && number <= 27));
+    }
 }
 
 typedef struct {
@@ -627,29 +763,35 @@ typedef struct {
     void (*run)(void);
 } named_case;
 
+static const named_case cases[] = {
+    {"P1", p1},
+    {"P2", p2},
+    {"P3", p3},
+    {"P4", p4},
+    {"P5", p5},
+    {"P5, read and reported", p5_read_and_reported},
+    {"P6", p6},
+    {"P7", p7},
+    {"P8", p8},
+    {"P9", p9},
+    {"two tables side by side", side_by_side},
+    {"two tables side by side, in pieces", side_by_side_in_pieces},
+    {"two tables side by side, everywhere", side_by_side_everywhere},
+    {"refused comparisons", refused_comparisons},
+    {"refused tables", refused_tables},
+    {"refused sizes", refused_sizes},
+    {"cut bytes", cut_bytes},
+    {"refused forms", refused_forms},
+    {"too many products", too_many_products},
+    {"refused stored tables", refused_stored_tables},
+    {"longest stored tables", longest_stored_tables},
+    {"short rooms", short_rooms},
+    {"layout", layout},
+    {"texts", texts},
+    {"numbers with a place", numbers_with_a_place},
+};
+
 int main(void) {
-    static const named_case cases[] = {
-        {"P1", p1},
-        {"P2", p2},
-        {"P3", p3},
-        {"P4", p4},
-        {"P5", p5},
-        {"P5, read and reported", p5_read_and_reported},
-        {"P6", p6},
-        {"P7", p7},
-        {"P8", p8},
-        {"P9", p9},
-        {"two tables side by side", side_by_side},
-        {"two tables side by side, in pieces", side_by_side_in_pieces},
-        {"two tables side by side, everywhere", side_by_side_everywhere},
-        {"refused comparisons", refused_comparisons},
-        {"refused tables", refused_tables},
-        {"refused sizes", refused_sizes},
-        {"refused bytes", refused_bytes},
-        {"short rooms", short_rooms},
-        {"layout", layout},
-        {"texts", texts},
-    };
     size_t place, failed = 0;
     for (place = 0; place < LENGTH(cases); place++) {
         all_hold = 1;

@@ -1,5 +1,5 @@
 -- The claim about two tables side by side holds of every two accepted tables of one number of variables, every first point of at most 2 ^ n, and every
--- list of calls that goes on from there. Read next: Bits.
+-- list of calls that goes on from there. Read next: Faults.
 use mathlib.Core.Path.{_≡_, refl, sym, ap, ap₂, _∙_, subst}
 use mathlib.Core.Bool.{Bool, true, false, cond}
 use mathlib.Core.Logic.{_⊎_, inl, inr, _≢_}
@@ -14,6 +14,7 @@ use lib.Dec.{eqb, leb}
 use borrow.Author.Tests.{eq-eqb, ne-eqb, eqb-true, leb-true}
 use Rattle.gf2.specs.Finite.{Mem, Rising}
 use Rattle.gf2.proofs.Logic.{and-l, and-r}
+use Rattle.table.specs.Refusal.{faultOf}
 use Rattle.table.specs.Decision.{front}
 use Rattle.table.proofs.Decide.{decide-number}
 use Rattle.records.proofs.KindBytes.{word-of-bytes}
@@ -27,7 +28,7 @@ use Rattle.point_marks.specs.Marks.{storedMark}
 use Rattle.point_marks.proofs.Marks.{marked-on, marked-free, marked-off}
 use Rattle.compare.specs.declared.Comparison.{Comparison}
 use Rattle.compare.specs.Differences.{isListed, differenceLength, differenceOf, differencesOf, fitting, differingFrom, nextPoint}
-use Rattle.compare.specs.Answer.{tableSize, Comparable, compareTests, compareDiffering, compareFault, compareAccepted, compareRefused, compareAnswer}
+use Rattle.compare.specs.Answer.{tableSize, Comparable, compareTests, compareDiffering, compareFault, comparePlace, compareAccepted, compareRefused, compareAnswer}
 use Rattle.compare.proofs.Records.{differences-length, differences-append}
 use Rattle.compare.proofs.Stopping.{ListingStop, stop-within}
 use Rattle.compare.proofs.Joining.{listed-differs, from-mem, from-rising, differing-all, from-none, from-add, from-exchange, from-same}
@@ -42,12 +43,14 @@ use Rattle.claims.specs.Compared.{Comparing, returned, roomReturned, han
 refusal-is : (c : Comparing) → returned c .refusal ≡ compareFault (c .left) (c .right) (c .first)
 unfolding compareAnswer compareFault
 refusal-is c =
-    decide-number (λ (a : Comparison). a .refusal) (compareTests (c .left) (c .right) (c .first)) (compareAccepted (c .left) (c .right) (c .first) (c .room)) compareRefused refl (λ k. refl)
+    decide-number (λ (a : Comparison). a .refusal) (compareTests (c .left) (c .right) (c .first)) (compareAccepted (c .left) (c .right) (c .first) (c .room))
+    (compareRefused (comparePlace (c .left) (c .right) (c .first))) refl (λ k. refl)
 
 -- An accepted call: it stops as the listing rule says, and hands over the records of the points before that.
 pub record Taken (c : Comparing) : Type 0 where
   pub tables : Comparable (c .left) (c .right)
   pub start : c .first ≤ tableSize (c .left)
+  pub place : returned c .place ≡ 0
   pub next : returned c .next ≡ nextPoint (storedMark (c .left)) (storedMark (c .right)) (c .first) (tableSize (c .left)) (length (c .room))
   pub stop : ListingStop (isListed (storedMark (c .left)) (storedMark (c .right)) (c .first)) (tableSize (c .left)) (fitting (length (c .room))) (returned c .next)
   pub records : returned c .records ≡ length (between (c .left) (c .right) (c .first) (returned c .next))
@@ -67,6 +70,7 @@ taken c e =
     record {
       tables = sound .0;
       start = sound .1;
+      place = ap (λ (a : Comparison). a .place) (sym (given .0));
       next = sym next;
       stop = subst (ListingStop (isListed l r (c .first)) size (fitting (length (c .room)))) next (compare-stop l r (c .first) size (length (c .room)));
       records = ap (λ (a : Comparison). a .records) (sym (given .0)) ∙ ap length points;
@@ -125,9 +129,10 @@ module _ (c : Comparing) (t : Taken c) where
 
 -- A refused call returns the number, and the room as it was, so it hands over nothing.
 refused-nothing : (c : Comparing) → returned c .refusal ≢ 0 → (returned c .records ≡ 0) × (handedRecords c ≡ [])
-unfolding handedRecords
+unfolding handedRecords compareFault
 refused-nothing c n =
-    let given = compare-refused (c .left) (c .right) (c .first) (c .room) (returned c .refusal) (refusal-is c) n in
+    let f = faultOf (compareTests (c .left) (c .right) (c .first)) in
+    let given = compare-refused (c .left) (c .right) (c .first) (c .room) f refl (λ z. n (refusal-is c ∙ z)) in
     let z : returned c .records ≡ 0 = ap (λ (a : Comparison). a .records) (sym (given .0)) in
     (z, ap (λ (k : ℕ). take (differenceLength * k) (roomReturned c)) z)
 
@@ -290,17 +295,18 @@ record-tells left right p q e =
 -- ---- a table beside itself, and tables exchanged
 
 -- The numbers of two answers are the same if each is.
-same-numbers : (a b : Comparison) → a .refusal ≡ b .refusal → a .records ≡ b .records → a .next ≡ b .next → a .total ≡ b .total → a ≡ b
-same-numbers a b r s n t =
-    ap (λ (k : ℕ). record { refusal = k; records = a .records; next = a .next; total = a .total }) r
-    ∙ ap (λ (k : ℕ). record { refusal = b .refusal; records = k; next = a .next; total = a .total }) s
-    ∙ ap (λ (k : ℕ). record { refusal = b .refusal; records = b .records; next = k; total = a .total }) n
-    ∙ ap (λ (k : ℕ). record { refusal = b .refusal; records = b .records; next = b .next; total = k }) t
+same-numbers : (a b : Comparison) → a .refusal ≡ b .refusal → a .place ≡ b .place → a .records ≡ b .records → a .next ≡ b .next → a .total ≡ b .total → a ≡ b
+same-numbers a b r p s n t =
+    ap (λ (k : ℕ). record { refusal = k; place = a .place; records = a .records; next = a .next; total = a .total }) r
+    ∙ ap (λ (k : ℕ). record { refusal = b .refusal; place = k; records = a .records; next = a .next; total = a .total }) p
+    ∙ ap (λ (k : ℕ). record { refusal = b .refusal; place = b .place; records = k; next = a .next; total = a .total }) s
+    ∙ ap (λ (k : ℕ). record { refusal = b .refusal; place = b .place; records = b .records; next = k; total = a .total }) n
+    ∙ ap (λ (k : ℕ). record { refusal = b .refusal; place = b .place; records = b .records; next = b .next; total = k }) t
 
 itself-nowhere : (c : Comparing) → storedFault (c .left) ≡ 0 → c .right ≡ c .left → c .first ≤ tableSize (c .left) → DiffersNowhere (c .left) c
 unfolding differencesOf flatMap
 itself-nowhere c e q h = record {
-  numbers = same-numbers (returned c) _ accepted (t .records ∙ ap length none) next
+  numbers = same-numbers (returned c) _ accepted (t .place) (t .records ∙ ap length none) next
       (t .total ∙ ap length (ap (λ (x : List ℕ). compareDiffering (c .left) x) q ∙ differing-all m m (tableSize (c .left)) ∙ from-same m 0 (tableSize (c .left))));
   room = t .room ∙ ap (λ (ps : List ℕ). front (differencesOf m (storedMark (c .right)) ps) (c .room)) none;
 }
@@ -331,7 +337,7 @@ differences-exchange left right (p ∷ ps) = ap (λ (x : List ℕ). differenceOf
 exchange-marks : (c : Comparing) → returned c .refusal ≡ 0 → ExchangesMarks c
 unfolding nextPoint
 exchange-marks c e = record {
-  numbers = same-numbers (returned d) (returned c) (accepted ∙ sym e) records next (u .total ∙ ap length total ∙ sym (t .total));
+  numbers = same-numbers (returned d) (returned c) (accepted ∙ sym e) (u .place ∙ sym (t .place)) records next (u .total ∙ ap length total ∙ sym (t .total));
   records = taken-handed d u ∙ ap (differencesOf r l) points ∙ differences-exchange l r (between (c .left) (c .right) (c .first) (returned c .next)) ∙ ap exchangedMarks (sym (taken-handed c t));
   rest = ap (λ (k : ℕ). drop (differenceLength * k) (roomReturned d)) (sym records) ∙ taken-rest d u
       ∙ ap (λ (k : ℕ). drop (differenceLength * k) (c .room)) records ∙ sym (taken-rest c t);

@@ -1,83 +1,132 @@
 -- Demand 1 holds: one law about any call that decides by its tests, and a line for each call. Read next: FormBytes.
 use mathlib.Core.Path.{_≡_, refl, sym, ap, _∙_, subst}
-use mathlib.Core.Bool.{false}
-use mathlib.Core.Logic.{_≢_}
-use mathlib.Core.List.{List, [], map}
+use mathlib.Core.Bool.{Bool, true, false, cond}
+use mathlib.Core.Logic.{_≢_, inl, inr}
+use mathlib.Core.List.{List, [], _∷_, map}
 use Prim.Native.Nat.{ℕ}
+use native.Mathlib.Decide.{ℕ-discrete}
+use lib.Dec.{eqb}
 use lib.ListN.{length}
-use borrow.Author.Tests.{eq-eqb, ne-eqb}
-use Rattle.gf2.specs.Finite.{holds}
-use Rattle.table.specs.Refusal.{firstFault}
+use borrow.Author.Tests.{eqb-true, eq-eqb, ne-eqb}
+use Rattle.gf2.specs.Finite.{Mem, holds}
+use Rattle.gf2.proofs.Logic.{and-l, and-r}
+use Rattle.table.specs.declared.Fault.{Fault}
+use Rattle.table.specs.Refusal.{Test, hasPlace, firstFault, firstPlace, faultAt, Numbered}
 use Rattle.table.specs.Decision.{Decision, answerOf, afterOf}
 use Rattle.table.specs.Table.{tableTests, shared}
-use Rattle.table.proofs.Refusal.{numbered, fault-first, no-fault}
+use Rattle.table.proofs.Refusal.{numbered, fault-first, no-fault, place-none, place-first, soundPlace, place-zero}
 use Rattle.table.proofs.Decide.{decide-accepted, decide-refused, decide-number, decide-exact}
 use Rattle.table.proofs.Table.{refuted, shared-mem}
-use Rattle.stored.specs.Stored.{storedTests, storedFault}
-use Rattle.stored.specs.Reading.{readCall, readAnswer, readOnAfter, readFreeAfter}
-use Rattle.compare.specs.Answer.{compareCall, compareAnswer, compareAfter}
+use Rattle.stored.specs.Stored.{storedTests, storedFault, storedPlace}
+use Rattle.stored.specs.Reading.{readPlace, readCall, readAnswer, readOnAfter, readFreeAfter}
+use Rattle.compare.specs.Answer.{comparePlace, compareCall, compareAnswer, compareAfter}
 use Rattle.analysis.specs.Spaces.{linearSpaceCall, linearSpaceAnswer, completeCall, completeAnswer, completeAfter, analyseCall, analyseAnswer, analyseAfter}
 use Rattle.analysis.specs.Affine.{affineCall, affineAnswer, affineAfter}
 use Rattle.form_calls.specs.Reading.{pointsCall, pointsAnswer, pointsAfter, rewriteCall, rewriteAnswer, rewriteAfter}
+use Rattle.product.specs.Product.{every}
 use Rattle.cubes.specs.Lists.{keep}
 use Rattle.cubes.specs.Listing.{listingCall, listingAnswer, listingAfter}
 use Rattle.listing.specs.Answers.{callOf}
 use Rattle.writing.specs.Writing.{writeCall, writeAnswer, writeAfter}
-use Rattle.table_report.specs.Text.{refusedLine}
-use Rattle.report.specs.Report.{reportText}
+use Rattle.report.proofs.Answering.{report-refused, report-read}
 use Rattle.report.specs.Answer.{reportCall, reportAnswer, reportAfter}
 use Rattle.claims.specs.Demand1.{Room, AllZero, Decides, Printed, Demand1}
 
 -- ---- any call that decides by its tests
 
-module _ {A : Type 0} (fixed numbers : List ℕ) (refusal : A → ℕ) (others : A → List ℕ) (d : Decision A) (rooms : List Room) where
-  -- The answer and every room go by the one decision; a refused answer has its number, and every other number 0.
+-- Every test has a number with a place, or the place 0.
+abbrev placesSound : List Test → Type 0
+placesSound ts = every soundPlace ts ≡ true
+
+-- No test has a place.
+abbrev placesNone : List Test → Type 0
+placesNone ts = every (λ t. eqb (t .place) 0) ts ≡ true
+
+every-mem : (p : Test → Bool) (ts : List Test) → every p ts ≡ true → (t : Test) → Mem t ts → p t ≡ true
+every-mem p (u ∷ ts) e t (inl q) = ap p q ∙ and-l (p u) (every p ts) e
+every-mem p (u ∷ ts) e t (inr m) = every-mem p ts (and-r (p u) (every p ts) e) t m
+
+-- So such a call gives none.
+no-places : (ts : List Test) → placesNone ts → 0 ≡ firstPlace ts
+unfolding firstPlace
+no-places [] e = refl
+no-places (t ∷ ts) e = go (t .applies) (eqb-true (t .place) 0 (and-l (eqb (t .place) 0) (every (λ u. eqb (u .place) 0) ts) e)) (no-places ts (and-r (eqb (t .place) 0) (every (λ u. eqb (u .place) 0) ts) e))
+  where
+    go : (b : Bool) → t .place ≡ 0 → 0 ≡ firstPlace ts → 0 ≡ cond b (t .place) (firstPlace ts)
+    go true z next = sym z
+    go false z next = next
+
+module _ {A : Type 0} (fixed numbers : List ℕ) (fault : A → Fault) (others : A → List ℕ) (d : Decision A) (rooms : List Room) where
+  -- The answer and every room go by the one decision; a refused answer has its number and its place, and every other number 0.
   pub decides : holds numbers 0 ≡ false → map (λ t. t .number) (d .tests) ≡ numbers → keep (holds numbers) fixed ≡ numbers
       → map (λ r. r .after) rooms ≡ map (λ r. afterOf d (r .written) (r .before)) rooms
-      → refusal (d .accepted) ≡ 0 → ((k : ℕ) → refusal (d .refused k) ≡ k) → ((k : ℕ) → AllZero (others (d .refused k)))
-      → Decides fixed numbers refusal others d (answerOf d) rooms
-  decides some tested order after none number zeros = record {
+      → fault (d .accepted) ≡ faultAt 0 0 → ((k : ℕ) → fault (d .refused k) ≡ faultAt k (firstPlace (d .tests))) → placesSound (d .tests)
+      → ((k : ℕ) → AllZero (others (d .refused k)))
+      → Decides fixed numbers fault others d (answerOf d) rooms
+  decides some tested order after none given sound zeros = record {
     tested = tested;
     order = order;
-    exact = decide-exact refusal (d .tests) (d .accepted) (d .refused) (numbered (d .tests) (ap (λ l. holds l 0) tested ∙ some)) none number;
-    accepts = λ e. let f = sym given ∙ e in (decide-accepted (d .tests) (d .accepted) (d .refused) f, after ∙ rw (eq-eqb (firstFault (d .tests)) 0 f));
+    exact = decide-exact number (d .tests) (d .accepted) (d .refused) numbered-so none-number given-number;
+    placed = λ k first. place ∙ place-first (d .tests) k first;
+    no-place = λ e. place ∙ place-zero (d .tests) (every-mem soundPlace (d .tests) sound) (ap hasPlace (sym refusal) ∙ e);
+    accepts = λ e. let f = sym refusal ∙ e in (decide-accepted (d .tests) (d .accepted) (d .refused) f, after ∙ rw (eq-eqb (firstFault (d .tests)) 0 f));
     refuses = λ n.
-        let f : firstFault (d .tests) ≢ 0 = λ z. n (given ∙ z) in (
+        let f : firstFault (d .tests) ≢ 0 = λ z. n (refusal ∙ z) in (
           subst (λ (x : A). AllZero (others x)) (sym (decide-refused (d .tests) (d .accepted) (d .refused) (firstFault (d .tests)) f refl)) (zeros (firstFault (d .tests))),
           after ∙ rw (ne-eqb (firstFault (d .tests)) 0 f),
         );
   }
     where
-      given : refusal (answerOf d) ≡ firstFault (d .tests)
-      given = decide-number refusal (d .tests) (d .accepted) (d .refused) none number
+      number : A → ℕ
+      number x = fault x .number
+
+      none-number : number (d .accepted) ≡ 0
+      none-number = ap (λ (f : Fault). f .number) none
+
+      given-number : (k : ℕ) → number (d .refused k) ≡ k
+      given-number k = ap (λ (f : Fault). f .number) (given k)
+
+      numbered-so : Numbered (d .tests)
+      numbered-so = numbered (d .tests) (ap (λ l. holds l 0) tested ∙ some)
+
+      refusal : number (answerOf d) ≡ firstFault (d .tests)
+      refusal = decide-number number (d .tests) (d .accepted) (d .refused) none-number given-number
+
+      place : fault (answerOf d) .place ≡ firstPlace (d .tests)
+      place = go (ℕ-discrete (firstFault (d .tests)) 0)
+        where
+          go : Dec (firstFault (d .tests) ≡ 0) → fault (answerOf d) .place ≡ firstPlace (d .tests)
+          go (yes e) = ap (λ (x : A). fault x .place) (decide-accepted (d .tests) (d .accepted) (d .refused) e) ∙ ap (λ (f : Fault). f .place) none ∙ sym (place-none (d .tests) numbered-so e)
+          go (no n) = ap (λ (x : A). fault x .place) (decide-refused (d .tests) (d .accepted) (d .refused) (firstFault (d .tests)) n refl) ∙ ap (λ (f : Fault). f .place) (given (firstFault (d .tests)))
 
 -- ---- the printed report
 
 report-printed : (bytes : List ℕ) → Printed bytes
-unfolding reportText storedFault holds
+unfolding storedFault storedPlace holds
 report-printed bytes = record {
   tested = refl;
   exact = record { refused = fault-first (storedTests bytes); accepted = no-fault (storedTests bytes) (numbered (storedTests bytes) refl) };
-  accepts = decide-accepted (storedTests bytes) _ refusedLine;
-  refuses = λ n. decide-refused (storedTests bytes) _ refusedLine (storedFault bytes) n refl;
+  placed = λ number first. place-first (storedTests bytes) number first;
+  accepts = report-read bytes;
+  refuses = report-refused bytes;
 }
 
 -- ---- the calls
 
 pub demand1 : Demand1
-unfolding holds keep tableTests readAnswer readOnAfter readFreeAfter compareAnswer compareAfter linearSpaceAnswer completeAnswer completeAfter analyseAnswer analyseAfter affineAnswer affineAfter listingAnswer listingAfter pointsAnswer pointsAfter rewriteAnswer rewriteAfter writeAnswer writeAfter reportAnswer reportAfter
+unfolding holds keep hasPlace tableTests readPlace comparePlace readAnswer readOnAfter readFreeAfter compareAnswer compareAfter linearSpaceAnswer completeAnswer completeAfter analyseAnswer analyseAfter affineAnswer affineAfter listingAnswer listingAfter pointsAnswer pointsAfter rewriteAnswer rewriteAfter writeAnswer writeAfter reportAnswer reportAfter
 demand1 = record {
-  read-table = λ bytes on free. decides _ _ _ _ (readCall bytes (length on) (length free)) _ refl refl refl refl refl (λ k. refl) (λ k. refl);
-  compare = λ left right first room. decides _ _ _ _ (compareCall left right first room) _ refl refl refl refl refl (λ k. refl) (λ k. refl);
-  linear-space = λ n on. decides _ _ _ _ (linearSpaceCall n on) _ refl refl refl refl refl (λ k. refl) (λ k. refl);
-  complete = λ n on free room. decides _ _ _ _ (completeCall n on free room) _ refl refl refl refl refl (λ k. refl) (λ k. refl);
-  analyse = λ n on free room. decides _ _ _ _ (analyseCall n on free room) _ refl refl refl refl refl (λ k. refl) (λ k. refl);
-  affine = λ n on room. decides _ _ _ _ (affineCall n on room) _ refl refl refl refl refl (λ k. refl) (λ k. refl);
+  read-table = λ bytes on free. decides _ _ _ _ (readCall bytes (length on) (length free)) _ refl refl refl refl refl (λ k. refl) refl (λ k. refl);
+  compare = λ left right first room. decides _ _ _ _ (compareCall left right first room) _ refl refl refl refl refl (λ k. refl) refl (λ k. refl);
+  linear-space = λ n on. decides _ _ _ _ (linearSpaceCall n on) _ refl refl refl refl refl (λ k. ap (faultAt k) (no-places (linearSpaceCall n on .tests) refl)) refl (λ k. refl);
+  complete = λ n on free room. decides _ _ _ _ (completeCall n on free room) _ refl refl refl refl refl (λ k. ap (faultAt k) (no-places (completeCall n on free room .tests) refl)) refl (λ k. refl);
+  analyse = λ n on free room. decides _ _ _ _ (analyseCall n on free room) _ refl refl refl refl refl (λ k. ap (faultAt k) (no-places (analyseCall n on free room .tests) refl)) refl (λ k. refl);
+  affine = λ n on room. decides _ _ _ _ (affineCall n on room) _ refl refl refl refl refl (λ k. ap (faultAt k) (no-places (affineCall n on room .tests) refl)) refl (λ k. refl);
   never-shared = λ on. refuted (shared on []) (λ e. shared-mem on [] e .2);
-  list-primes = λ n on free place allowance room. decides _ _ _ _ (listingCall (callOf n on free place allowance room)) _ refl refl refl refl refl (λ k. refl) (λ k. refl);
-  write-form = λ n on free room. decides _ _ _ _ (writeCall n on free room) _ refl refl refl refl refl (λ k. refl) (λ k. refl);
-  form-points = λ bytes room. decides _ _ _ _ (pointsCall bytes room) _ refl refl refl refl refl (λ k. refl) (λ k. refl);
-  form-rewrite = λ bytes room. decides _ _ _ _ (rewriteCall bytes room) _ refl refl refl refl refl (λ k. refl) (λ k. refl);
-  report = λ bytes room. decides _ _ _ _ (reportCall bytes room) _ refl refl refl refl refl (λ k. refl) (λ k. refl);
+  list-primes = λ n on free place allowance room. decides _ _ _ _ (listingCall (callOf n on free place allowance room)) _ refl refl refl refl refl (λ k. ap (faultAt k) (no-places (listingCall (callOf n on free place allowance room) .tests) refl)) refl (λ k. refl);
+  write-form = λ n on free room. decides _ _ _ _ (writeCall n on free room) _ refl refl refl refl refl (λ k. ap (faultAt k) (no-places (writeCall n on free room .tests) refl)) refl (λ k. refl);
+  form-points = λ bytes room. decides _ _ _ _ (pointsCall bytes room) _ refl refl refl refl refl (λ k. refl) refl (λ k. refl);
+  form-rewrite = λ bytes room. decides _ _ _ _ (rewriteCall bytes room) _ refl refl refl refl refl (λ k. refl) refl (λ k. refl);
+  report = λ bytes room. decides _ _ _ _ (reportCall bytes room) _ refl refl refl refl refl (λ k. ap (faultAt k) (no-places (reportCall bytes room .tests) refl)) refl (λ k. refl);
   printed = report-printed;
 }

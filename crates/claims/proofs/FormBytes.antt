@@ -11,10 +11,8 @@ use lib.ListN.{length, length-append}
 use borrow.Author.Tests.{ltb-false}
 use Rattle.gf2.specs.Finite.{Mem}
 use Rattle.gf2.proofs.Finite.{select-ext}
-use Rattle.table.specs.Refusal.{firstFault}
 use Rattle.table.specs.Table.{Accepted}
 use Rattle.records.specs.Kinds.{encodeEnd}
-use Rattle.records.specs.Walks.{layoutOf}
 use Rattle.space.specs.Closure.{linearSpace, degree}
 use Rattle.space.specs.Completion.{completed, completedPoints}
 use Rattle.space.proofs.Closure.{linear-reduced, linear-span}
@@ -25,6 +23,7 @@ use Rattle.form.specs.Decoding.{decodeForm}
 use Rattle.form.specs.Refusal.{formFault}
 use Rattle.form_calls.specs.Reading.{pointsRead, rewritten}
 use Rattle.form.proofs.Encodings.{decoded, encoded-form}
+use Rattle.form.proofs.Accepting.{accepted-form}
 use Rattle.cubes.specs.Records.{maxListed}
 use Rattle.cover.specs.WrittenForm.{writtenForm, formSizeFault}
 use Rattle.cover.proofs.WrittenForm.{table-form-at, table-form-products, table-form-few, form-factors}
@@ -91,8 +90,8 @@ module _ (n : ℕ) (on free : List ℕ) (a : Accepted n on free) (small : formSi
     bytes-decoded = ap decodeForm q ∙ decoded tableForm
 
     pub bytes-accepted : formFault bytes ≡ 0
-    unfolding formBytes layoutOf firstFault
-    bytes-accepted = ap formFault q ∙ rw (encoded-form tableForm written-valid)
+    unfolding formBytes
+    bytes-accepted = ap formFault q ∙ accepted-form (encodeForm tableForm) .1 (encoded-form tableForm written-valid)
 
     pub bytes-points : pointsRead bytes ≡ completedPoints n on free
     bytes-points = ap formPoints bytes-decoded ∙ written-points

@@ -5,6 +5,8 @@ pub mod Reports
 pub mod Demand2
 pub mod Demand3
 pub mod Compared
+pub mod Faults
+pub mod FaultCalls
 pub mod Bits
 pub mod Examples
 pub mod Rooms

@@ -9,6 +9,7 @@ use lib.Seq.{take-append-seam}
 use Rattle.gf2.specs.Limits.{maxVariables}
 use Rattle.gf2.specs.Finite.{holds, select}
 use Rattle.gf2.proofs.Finite.{select-mem, select-holds, select-rising}
+use Rattle.table.specs.declared.Fault.{Fault}
 use Rattle.table.specs.Refusal.{Test, test, NoneApplies, sizeFault}
 use Rattle.table.specs.Decision.{front, Decision, roomTest}
 use Rattle.table.specs.Table.{tableTests, tableFault, Accepted}
@@ -39,9 +40,9 @@ pub record Gave {A : Type 0} (returned accepted : A) (handed whole : List ℕ) :
   pub list : handed ≡ whole
 
 -- An accepted call hands over its list, if it counts it.
-gave : {A : Type 0} {fixed numbers : List ℕ} {refusal : A → ℕ} {others : A → List ℕ} {call : Decision A} {returned : A} {written before after : List ℕ}
-    → Decides fixed numbers refusal others call returned (lent written before after ∷ []) → (count : A → ℕ) → count (call .accepted) ≡ length written
-    → refusal returned ≡ 0 → Gave returned (call .accepted) (take (count returned) after) written
+gave : {A : Type 0} {fixed numbers : List ℕ} {fault : A → Fault} {others : A → List ℕ} {call : Decision A} {returned : A} {written before after : List ℕ}
+    → Decides fixed numbers fault others call returned (lent written before after ∷ []) → (count : A → ℕ) → count (call .accepted) ≡ length written
+    → fault returned .number ≡ 0 → Gave returned (call .accepted) (take (count returned) after) written
 gave {A} {written = written} {before} d count c e =
     let a = d .accepts e in record {
       value = a .0;

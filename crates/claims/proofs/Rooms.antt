@@ -12,15 +12,15 @@ use Rattle.gf2.specs.Bits.{bit, halvings, lead}
 use Rattle.gf2.specs.Limits.{maxVariables}
 use Rattle.gf2.specs.Finite.{Mem, holds, Ordered, Rising, select}
 use Rattle.gf2.specs.Basis.{canonicalPlaces}
+use Rattle.gf2.proofs.Logic.{clash}
 use Rattle.gf2.proofs.Finite.{rising-length, select-length, mem-select}
-use Rattle.table.specs.Refusal.{firstFault}
 use Rattle.table.specs.Table.{Accepted}
 use Rattle.records.specs.Kinds.{encodeEnd, Bytes}
 use Rattle.stored.specs.Layout.{longestTable}
 use Rattle.stored.specs.Marks.{storedVariables, storedOn, storedFree}
 use Rattle.stored.specs.Stored.{storedFault}
 use Rattle.stored.proofs.Laying.{too-long}
-use Rattle.stored.proofs.Accepting.{stored-accepted}
+use Rattle.stored.proofs.Accepting.{stored-laid, stored-accepted}
 use Rattle.space.specs.Closure.{linearSpace}
 use Rattle.space.specs.Completion.{completed, completedPoints}
 use Rattle.space.specs.Restriction.{project, equations}
@@ -60,12 +60,11 @@ use Rattle.claims.proofs.Compared.{taken, taken-at}
 -- ---- stored tables
 
 table-room : (bytes : List ℕ) → storedFault bytes ≡ 0 → length bytes ≤ 12293
-unfolding storedFault firstFault
 table-room bytes e = go (decLt longestTable (length bytes))
   where
     go : Dec (longestTable < length bytes) → length bytes ≤ 12293
     go (no h) = omega arith
-    go (yes h) = let z : _≡_ {A = ℕ} 8 0 = rw (too-long bytes h) at e in absurd (omega arith)
+    go (yes h) = clash (too-long bytes h) (stored-laid bytes e)
 
 -- ---- points
 

@@ -5,7 +5,7 @@
 -- It is a claim about the running call. The contract of `glospruma_compare` (crates/glospruma/src/lib.rt) says that the numbers it returns are
 -- `compareAnswer` of its arguments and that its room holds `compareAfter` of them, which are all that is spoken of here. A table is accepted exactly
 -- where `glospruma_read_table` reads it into rooms that are long enough, and `storedOn` and `storedFree` are the lists that it hands over
--- (`read-exactly`). Read next: Bits.
+-- (`read-exactly`). Read next: Faults.
 use mathlib.Core.Path.{_≡_}
 use mathlib.Core.Bool.{Bool, true, cond, _&&_}
 use mathlib.Core.Logic.{_⊎_, _≢_, _↔_}
@@ -99,7 +99,7 @@ pub record StopsBefore (left right : List ℕ) (c : Comparing) : Type 0 where
 
 -- A call for one table beside itself: it is done at once, without a record, and the total is 0.
 pub record DiffersNowhere (bytes : List ℕ) (c : Comparing) : Type 0 where
-  pub numbers : returned c ≡ record { refusal = 0; records = 0; next = tableSize bytes; total = 0 }
+  pub numbers : returned c ≡ record { refusal = 0; place = 0; records = 0; next = tableSize bytes; total = 0 }
   pub room : roomReturned c ≡ c .room
 
 -- Exchanging the tables exchanges the marks in every record and nothing else.

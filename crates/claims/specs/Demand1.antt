@@ -1,5 +1,5 @@
--- Demand 1: every table, form and number gets an answer; what is wrong is refused under one fixed number, in one fixed order, with every other
--- number 0 and all lent memory as before. No public call has a `requires`. Its contract (crates/glospruma/src/lib.rt) says that it returns the answer
+-- Demand 1: every table, form and number gets an answer; what is wrong is refused under one fixed number, in one fixed order, with its byte place where the
+-- number has one, every other number 0 and all lent memory as before. No public call has a `requires`. Its contract (crates/glospruma/src/lib.rt) says that it returns the answer
 -- and leaves each lent room as its line here names them, under the names of its parameters, so what is said of these is said of the running
 -- calls, on all inputs; a test of the documents compares the two. Read next: Demand2.
 use mathlib.Core.Path.{_≡_}
@@ -11,12 +11,13 @@ use lib.ListN.{length, replicate}
 use Rattle.gf2.specs.Finite.{holds}
 use Rattle.basis.specs.declared.Basis.{Basis}
 use Rattle.basis.specs.declared.ShortList.{ShortList}
-use Rattle.table.specs.Refusal.{Exact, variablesFault, pointFault, orderFault, sharedFault, sizeFault, affineFault, roomFault, layoutFault, placeFault, countsFault, firstPointFault}
+use Rattle.table.specs.declared.Fault.{Fault}
+use Rattle.table.specs.Refusal.{hasPlace, faultAt, First, Exact, variablesFault, pointFault, orderFault, sharedFault, sizeFault, affineFault, roomFault, placeFault, countsFault, firstPointFault}
 use Rattle.table.specs.Decision.{front, Decision}
 use Rattle.table.specs.Table.{shared}
 use Rattle.stored.specs.declared.TableRead.{TableRead}
 use Rattle.stored.specs.Marks.{storedVariables, storedOn, storedFree}
-use Rattle.stored.specs.Stored.{storedTests, storedFault}
+use Rattle.stored.specs.Stored.{tableFaults, storedTests, storedFault, storedPlace}
 use Rattle.stored.specs.Reading.{readCall, readAnswer, readOnAfter, readFreeAfter}
 use Rattle.compare.specs.declared.Comparison.{Comparison}
 use Rattle.compare.specs.Answer.{compareBytes, compareCall, compareAnswer, compareAfter}
@@ -27,6 +28,7 @@ use Rattle.analysis.specs.declared.Analysis.{Analysis}
 use Rattle.analysis.specs.declared.AffineSpace.{AffineSpace}
 use Rattle.analysis.specs.Spaces.{linearSpaceCall, linearSpaceAnswer, completeCall, completeAnswer, completeAfter, completedRestriction, analyseCall, analyseAnswer, analyseAfter}
 use Rattle.analysis.specs.Affine.{affineProjection, affineCall, affineAnswer, affineAfter}
+use Rattle.form.specs.Refusal.{formFaults}
 use Rattle.form_calls.specs.declared.FormPoints.{FormPoints}
 use Rattle.form_calls.specs.declared.FormRewrite.{FormRewrite}
 use Rattle.form_calls.specs.Reading.{pointsRead, pointsCall, pointsAnswer, pointsAfter, rewritten, rewriteCall, rewriteAnswer, rewriteAfter}
@@ -36,20 +38,22 @@ use Rattle.cubes.specs.Listing.{listing, Answer, listingCall, listingAnswer, li
 use Rattle.listing.specs.Answers.{callOf}
 use Rattle.writing.specs.declared.FormWritten.{FormWritten}
 use Rattle.writing.specs.Writing.{formBytes, writeCall, writeAnswer, writeAfter}
-use Rattle.table_report.specs.Text.{refusedLine, tableText}
+use Rattle.lines.specs.Lines.{faultLine}
+use Rattle.table_report.specs.Text.{tableText}
 use Rattle.report.specs.declared.ReportWritten.{ReportWritten}
 use Rattle.report.specs.Report.{reportText}
 use Rattle.report.specs.Answer.{reportCall, reportAnswer, reportAfter}
 
 -- ---- one call
 
--- The one fixed order of the refusals of document 01, "Refusal numbers": bytes first, the room last.
+-- The one fixed order of the refusals of document 01, "Refusal numbers": bytes first, the room last. What is wrong with bytes has a number each (document 02,
+-- No. 3), of which one alone can be given: which one, `FaultsTold` says.
 abbrev pub refusalOrder : List ℕ
-refusalOrder = layoutFault ∷ variablesFault ∷ pointFault ∷ orderFault ∷ sharedFault ∷ affineFault ∷ sizeFault ∷ placeFault ∷ roomFault ∷ []
+refusalOrder = formFaults ++ (variablesFault ∷ pointFault ∷ orderFault ∷ sharedFault ∷ affineFault ∷ sizeFault ∷ placeFault ∷ roomFault ∷ [])
 
 -- The order of comparing two tables (document 02, No. 1): all refusals of the left table in that order, all of the right one, then the two of both.
 abbrev pub storedOrder : List ℕ
-storedOrder = layoutFault ∷ variablesFault ∷ pointFault ∷ orderFault ∷ []
+storedOrder = tableFaults ++ (variablesFault ∷ pointFault ∷ orderFault ∷ [])
 
 abbrev pub comparisonOrder : List ℕ
 comparisonOrder = storedOrder ++ (storedOrder ++ (countsFault ∷ firstPointFault ∷ []))
@@ -67,17 +71,24 @@ lent written before after = record { written = written; before = before; after =
 abbrev pub AllZero : List ℕ → Type 0
 AllZero numbers = numbers ≡ replicate (length numbers) 0
 
--- The call has tests of these numbers, taken in the order that is fixed, and returned `returned`, of which `refusal` is the refusal number, 0 if it was
--- accepted, and `others` are all other numbers, those of its lists and their lengths included.
-pub record Decides {A : Type 0} (fixed numbers : List ℕ) (refusal : A → ℕ) (others : A → List ℕ) (call : Decision A) (returned : A) (rooms : List Room) : Type 0 where
+-- A refusal number of a call whose refusals have no place.
+abbrev pub unplaced : ℕ → Fault
+unplaced number = faultAt number 0
+
+-- The call has tests of these numbers, taken in the order that is fixed, and returned `returned`, of which `fault` is the refusal number, 0 if it was
+-- accepted, with its byte place, and `others` are all other numbers, those of its lists and their lengths included.
+pub record Decides {A : Type 0} (fixed numbers : List ℕ) (fault : A → Fault) (others : A → List ℕ) (call : Decision A) (returned : A) (rooms : List Room) : Type 0 where
   pub tested : map (λ t. t .number) (call .tests) ≡ numbers
   pub order : keep (holds numbers) fixed ≡ numbers
   -- Refusal r is given exactly when a test of number r applies and none before it does; 0 exactly when none applies.
-  pub exact : Exact (call .tests) (refusal returned)
+  pub exact : Exact (call .tests) (fault returned .number)
+  -- The place is that of the test whose number is given. It is 0 where the number has no place, and so where the call is accepted (document 02, No. 3).
+  pub placed : (number : ℕ) (first : First (call .tests) number) → fault returned .place ≡ first .found .place
+  pub no-place : hasPlace (fault returned .number) ≡ false → fault returned .place ≡ 0
   -- Accepted: each room has its list at the front, and the rest of it is as lent.
-  pub accepts : refusal returned ≡ 0 → (returned ≡ call .accepted) × (map (λ r. r .after) rooms ≡ map (λ r. front (r .written) (r .before)) rooms)
+  pub accepts : fault returned .number ≡ 0 → (returned ≡ call .accepted) × (map (λ r. r .after) rooms ≡ map (λ r. front (r .written) (r .before)) rooms)
   -- Refused: every other number is 0, so that every list is empty, and each room is as lent.
-  pub refuses : refusal returned ≢ 0 → AllZero (others returned) × (map (λ r. r .after) rooms ≡ map (λ r. r .before) rooms)
+  pub refuses : fault returned .number ≢ 0 → AllZero (others returned) × (map (λ r. r .after) rooms ≡ map (λ r. r .before) rooms)
 
 -- ---- all other numbers of each answer
 
@@ -122,64 +133,65 @@ reportOthers r = r .length ∷ []
 
 -- ---- the printed report
 
--- The tests of a stored table decide what is printed: a table refused prints `refused N` and nothing else. Where only the form is refused, 5 stands in
--- the text of the table.
+-- The tests of a stored table decide what is printed: a table refused prints `refused N`, with ` at P` where N has a place, and nothing else. Where only
+-- the form is refused, 5 stands in the text of the table.
 pub record Printed (bytes : List ℕ) : Type 0 where
-  pub tested : map (λ t. t .number) (storedTests bytes) ≡ 8 ∷ 1 ∷ 2 ∷ 3 ∷ []
+  pub tested : map (λ t. t .number) (storedTests bytes) ≡ 20 ∷ 21 ∷ 25 ∷ 26 ∷ 1 ∷ 2 ∷ 3 ∷ []
   pub exact : Exact (storedTests bytes) (storedFault bytes)
+  pub placed : (number : ℕ) (first : First (storedTests bytes) number) → storedPlace bytes ≡ first .found .place
   pub accepts : storedFault bytes ≡ 0 → reportText bytes ≡ tableText (storedVariables bytes) (storedOn bytes) (storedFree bytes)
-  pub refuses : storedFault bytes ≢ 0 → reportText bytes ≡ refusedLine (storedFault bytes)
+  pub refuses : storedFault bytes ≢ 0 → reportText bytes ≡ faultLine (storedFault bytes) (storedPlace bytes)
 
 -- ---- every public call, on all inputs
 
 pub record Demand1 : Type 0 where
   pub read-table : (bytes on free : List ℕ)
-      → Decides refusalOrder (8 ∷ 1 ∷ 2 ∷ 3 ∷ 7 ∷ []) (λ r. r .refusal) readOthers
+      → Decides refusalOrder (20 ∷ 21 ∷ 25 ∷ 26 ∷ 1 ∷ 2 ∷ 3 ∷ 7 ∷ []) (λ r. faultAt (r .refusal) (r .place)) readOthers
       (readCall bytes (length on) (length free)) (readAnswer bytes (length on) (length free))
       (lent (storedOn bytes) on (readOnAfter bytes on free) ∷ lent (storedFree bytes) free (readFreeAfter bytes on free) ∷ [])
   -- Where both tables are refused, the left number is given. A room that runs short stops the listing: there is no 7.
   pub compare : (left right : List ℕ) (first : ℕ) (room : List ℕ)
-      → Decides comparisonOrder (8 ∷ 1 ∷ 2 ∷ 3 ∷ 8 ∷ 1 ∷ 2 ∷ 3 ∷ 10 ∷ 11 ∷ []) (λ r. r .refusal) compareOthers
+      → Decides comparisonOrder (20 ∷ 21 ∷ 25 ∷ 26 ∷ 1 ∷ 2 ∷ 3 ∷ 20 ∷ 21 ∷ 25 ∷ 26 ∷ 1 ∷ 2 ∷ 3 ∷ 10 ∷ 11 ∷ []) (λ r. faultAt (r .refusal) (r .place)) compareOthers
       (compareCall left right first room) (compareAnswer left right first room)
       (lent (compareBytes left right first room) room (compareAfter left right first room) ∷ [])
   pub linear-space : (n : ℕ) (on : List ℕ)
-      → Decides refusalOrder (1 ∷ 2 ∷ 3 ∷ 4 ∷ []) (λ r. r .refusal) linearSpaceOthers
+      → Decides refusalOrder (1 ∷ 2 ∷ 3 ∷ 4 ∷ []) (λ r. unplaced (r .refusal)) linearSpaceOthers
       (linearSpaceCall n on) (linearSpaceAnswer n on)
       []
   pub complete : (n : ℕ) (on free room : List ℕ)
-      → Decides refusalOrder (1 ∷ 2 ∷ 3 ∷ 4 ∷ 7 ∷ []) (λ r. r .refusal) completeOthers
+      → Decides refusalOrder (1 ∷ 2 ∷ 3 ∷ 4 ∷ 7 ∷ []) (λ r. unplaced (r .refusal)) completeOthers
       (completeCall n on free room) (completeAnswer n on free room)
       (lent (completedPoints n on free) room (completeAfter n on free room) ∷ [])
   pub analyse : (n : ℕ) (on free room : List ℕ)
-      → Decides refusalOrder (1 ∷ 2 ∷ 3 ∷ 4 ∷ 7 ∷ []) (λ r. r .refusal) analyseOthers
+      → Decides refusalOrder (1 ∷ 2 ∷ 3 ∷ 4 ∷ 7 ∷ []) (λ r. unplaced (r .refusal)) analyseOthers
       (analyseCall n on free room) (analyseAnswer n on free room)
       (lent (completedRestriction n on free) room (analyseAfter n on free room) ∷ [])
   pub affine : (n : ℕ) (on room : List ℕ)
-      → Decides refusalOrder (1 ∷ 2 ∷ 3 ∷ 4 ∷ 6 ∷ 7 ∷ []) (λ r. r .refusal) affineOthers
+      → Decides refusalOrder (1 ∷ 2 ∷ 3 ∷ 4 ∷ 6 ∷ 7 ∷ []) (λ r. unplaced (r .refusal)) affineOthers
       (affineCall n on room) (affineAnswer n on room)
       (lent (affineProjection n on) room (affineAfter n on room) ∷ [])
   -- The two calls that take on points alone have no free points, so that their test of number 4 never applies.
   pub never-shared : (on : List ℕ) → shared on [] ≡ false
   -- A listing that runs short of room stops and is not refused: there is no 7.
   pub list-primes : (n : ℕ) (on free : List ℕ) (place allowance : ℕ) (room : List ℕ)
-      → Decides refusalOrder (1 ∷ 2 ∷ 3 ∷ 4 ∷ 5 ∷ 9 ∷ []) (λ r. r .refusal) listingOthers
+      → Decides refusalOrder (1 ∷ 2 ∷ 3 ∷ 4 ∷ 5 ∷ 9 ∷ []) (λ r. unplaced (r .refusal)) listingOthers
       (listingCall (callOf n on free place allowance room)) (listingAnswer (callOf n on free place allowance room))
       (lent (recordsOf (listing (callOf n on free place allowance room) .primes)) room (listingAfter (callOf n on free place allowance room)) ∷ [])
   pub write-form : (n : ℕ) (on free room : List ℕ)
-      → Decides refusalOrder (1 ∷ 2 ∷ 3 ∷ 4 ∷ 5 ∷ 7 ∷ []) (λ r. r .refusal) writeOthers
+      → Decides refusalOrder (1 ∷ 2 ∷ 3 ∷ 4 ∷ 5 ∷ 7 ∷ []) (λ r. unplaced (r .refusal)) writeOthers
       (writeCall n on free room) (writeAnswer n on free room)
       (lent (formBytes n on free) room (writeAfter n on free room) ∷ [])
   pub form-points : (bytes room : List ℕ)
-      → Decides refusalOrder (8 ∷ 7 ∷ []) (λ r. r .refusal) pointsOthers
+      → Decides refusalOrder (20 ∷ 21 ∷ 22 ∷ 23 ∷ 24 ∷ 25 ∷ 26 ∷ 27 ∷ 7 ∷ []) (λ r. faultAt (r .refusal) (r .place)) pointsOthers
       (pointsCall bytes room) (pointsAnswer bytes room)
       (lent (pointsRead bytes) room (pointsAfter bytes room) ∷ [])
   pub form-rewrite : (bytes room : List ℕ)
-      → Decides refusalOrder (8 ∷ 7 ∷ []) (λ r. r .refusal) rewriteOthers
+      → Decides refusalOrder (20 ∷ 21 ∷ 22 ∷ 23 ∷ 24 ∷ 25 ∷ 26 ∷ 27 ∷ 7 ∷ []) (λ r. faultAt (r .refusal) (r .place)) rewriteOthers
       (rewriteCall bytes room) (rewriteAnswer bytes room)
       (lent (rewritten bytes) room (rewriteAfter bytes room) ∷ [])
   -- The call that gives the report is refused only where the text is longer than the room: a refused table has a text too, which is `printed`.
   pub report : (bytes room : List ℕ)
-      → Decides refusalOrder (7 ∷ []) (λ r. r .refusal) reportOthers
+      → Decides refusalOrder (7 ∷ []) (λ r. unplaced (r .refusal)) reportOthers
       (reportCall bytes room) (reportAnswer bytes room)
       (lent (reportText bytes) room (reportAfter bytes room) ∷ [])
   pub printed : (bytes : List ℕ) → Printed bytes

@@ -4,5 +4,6 @@ pub mod Demand1
 pub mod Demand2
 pub mod Demand3
 pub mod Compared
+pub mod Faults
 pub mod Bits
 pub mod Rooms

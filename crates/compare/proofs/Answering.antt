@@ -8,6 +8,8 @@ use lib.ListN.{length, take}
 use lib.Pow.{pow-mono}
 use Rattle.gf2.specs.Finite.{Mem}
 use Rattle.gf2.proofs.Finite.{select-ext, select-mem}
+use Rattle.table.specs.declared.Fault.{Fault}
+use Rattle.table.specs.Refusal.{firstFault, faultOf}
 use Rattle.table.specs.Decision.{front}
 use Rattle.table.specs.Flags.{maxPoints}
 use Rattle.table.proofs.Decide.{decide-accepted, decide-refused}
@@ -15,7 +17,7 @@ use Rattle.stored.proofs.Accepting.{stored-accepted}
 use Rattle.point_marks.specs.Marks.{storedMark, markAt, MarksOf}
 use Rattle.compare.specs.declared.Stopped.{Stopped}
 use Rattle.compare.specs.Differences.{differs, differing, isListed, differingFrom, differencesOf, fitting, handedPoints, handedBytes, nextPoint, stoppedAt}
-use Rattle.compare.specs.Answer.{tableSize, compareTests, compareFault, compareBytes, compareAccepted, compareRefused, compareAnswer, compareAfter}
+use Rattle.compare.specs.Answer.{tableSize, compareTests, compareFault, comparePlace, compareBytes, compareAccepted, compareRefused, compareAnswer, compareAfter}
 use Rattle.compare.proofs.Records.{differences-ext}
 use Rattle.compare.proofs.Stopping.{ListingStop, stop-within, listing-stop}
 use Rattle.compare.proofs.Refusals.{compare-exactly}
@@ -68,19 +70,22 @@ module _ (left right left₁ right₁ : ℕ → ℕ) (size : ℕ) (l : (p : ℕ)
 -- ---- the answer
 
 module _ (left right : List ℕ) (first : ℕ) (room : List ℕ) where
-  pub compare-refused : (k : ℕ) → k ≡ compareFault left right first → k ≢ 0
-      → (compareRefused k ≡ compareAnswer left right first room) × (room ≡ compareAfter left right first room)
-  unfolding compareFault compareAnswer compareAfter
-  compare-refused k e n = (
-    sym (decide-refused (compareTests left right first) (compareAccepted left right first room) compareRefused k n (sym e)),
-    sym (decide-refused (compareTests left right first) (front (compareBytes left right first room) room) (λ number. room) k n (sym e)),
-  )
+  pub compare-refused : (f : Fault) → f ≡ faultOf (compareTests left right first) → f .number ≢ 0
+      → (compareRefused (f .place) (f .number) ≡ compareAnswer left right first room) × (room ≡ compareAfter left right first room)
+  unfolding comparePlace compareAnswer compareAfter
+  compare-refused f e n =
+      let number : firstFault (compareTests left right first) ≡ f .number = sym (ap (λ (x : Fault). x .number) e) in
+      let place : f .place ≡ comparePlace left right first = ap (λ (x : Fault). x .place) e in (
+        ap (λ (p : ℕ). compareRefused p (f .number)) place
+            ∙ sym (decide-refused (compareTests left right first) (compareAccepted left right first room) (compareRefused (comparePlace left right first)) (f .number) n number),
+        sym (decide-refused (compareTests left right first) (front (compareBytes left right first room) room) (λ k. room) (f .number) n number),
+      )
 
   pub compare-accepted : compareFault left right first ≡ 0
       → (compareAccepted left right first room ≡ compareAnswer left right first room) × (front (compareBytes left right first room) room ≡ compareAfter left right first room)
   unfolding compareFault compareAnswer compareAfter
   compare-accepted e = (
-    sym (decide-accepted (compareTests left right first) (compareAccepted left right first room) compareRefused e),
+    sym (decide-accepted (compareTests left right first) (compareAccepted left right first room) (compareRefused (comparePlace left right first)) e),
     sym (decide-accepted (compareTests left right first) (front (compareBytes left right first room) room) (λ number. room) e),
   )
 
@@ -96,7 +101,7 @@ module _ (left right : List ℕ) (first : ℕ) (room : List ℕ) where
         → total ≡ length (differing (markAt lefts) (markAt rights) size)
         → s ≡ stoppedAt (markAt lefts) (markAt rights) first size (length room)
         → after ≡ front (handedBytes (markAt lefts) (markAt rights) first size (length room)) room
-        → (record { refusal = 0; records = s .records; next = s .next; total = total } ≡ compareAnswer left right first room) × (after ≡ compareAfter left right first room)
+        → (record { refusal = 0; place = 0; records = s .records; next = s .next; total = total } ≡ compareAnswer left right first room) × (after ≡ compareAfter left right first room)
     compare-answer z t q w =
         let l = below left lefts m in
         let r = below right rights n in

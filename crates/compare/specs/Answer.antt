@@ -6,7 +6,7 @@ use mathlib.Core.List.{List, [], _∷_, _++_}
 use Prim.Native.Nat.{ℕ, _^_}
 use lib.Dec.{eqb, ltb}
 use lib.ListN.{length}
-use Rattle.table.specs.Refusal.{Test, test, firstFault, countsFault, firstPointFault}
+use Rattle.table.specs.Refusal.{Test, test, firstFault, firstPlace, countsFault, firstPointFault}
 use Rattle.table.specs.Decision.{Decision, answerOf, afterOf}
 use Rattle.stored.specs.Marks.{storedVariables}
 use Rattle.stored.specs.Stored.{storedTests, storedFault}
@@ -40,6 +40,10 @@ compareTests left right first = storedTests left ++ (storedTests right ++ pairTe
 unfoldable pub compareFault : List ℕ → List ℕ → ℕ → ℕ
 compareFault left right first = firstFault (compareTests left right first)
 
+-- The place that goes with it, in the table whose number it is (document 02, No. 3). Which table that is, is not said.
+unfoldable pub comparePlace : List ℕ → List ℕ → ℕ → ℕ
+comparePlace left right first = firstPlace (compareTests left right first)
+
 -- The differing points, and the points that are handed over into a room with the bytes that are written there.
 abbrev pub compareDiffering : List ℕ → List ℕ → List ℕ
 compareDiffering left right = differing (storedMark left) (storedMark right) (tableSize left)
@@ -55,19 +59,24 @@ abbrev pub compareAccepted : List ℕ → List ℕ → ℕ → List ℕ → Comp
 compareAccepted left right first room =
     record {
       refusal = 0;
+      place = 0;
       records = length (comparePoints left right first room);
       next = nextPoint (storedMark left) (storedMark right) first (tableSize left) (length room);
       total = length (compareDiffering left right);
     }
 
--- A refusal returns its number with all other numbers 0.
-abbrev pub compareRefused : ℕ → Comparison
-compareRefused fault = record { refusal = fault; records = 0; next = 0; total = 0 }
+-- A refusal returns its number and its place with all other numbers 0.
+abbrev pub compareRefused : ℕ → ℕ → Comparison
+compareRefused place fault = record { refusal = fault; place = place; records = 0; next = 0; total = 0 }
 
 -- The call, the numbers that it returns, and the room after it.
 abbrev pub compareCall : List ℕ → List ℕ → ℕ → List ℕ → Decision Comparison
 compareCall left right first room =
-    record { tests = compareTests left right first; accepted = compareAccepted left right first room; refused = compareRefused }
+    record {
+      tests = compareTests left right first;
+      accepted = compareAccepted left right first room;
+      refused = compareRefused (comparePlace left right first);
+    }
 
 unfoldable pub compareAnswer : List ℕ → List ℕ → ℕ → List ℕ → Comparison
 compareAnswer left right first room = answerOf (compareCall left right first room)

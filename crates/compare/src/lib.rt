@@ -7,19 +7,22 @@ ghost use lib.ListN.{length};
 ghost use lib.Seq.{sets};
 ghost use Rattle.records.specs.Kinds.{lowByte, highByte};
 ghost use Rattle.table.specs.Flags.{maxPoints};
+ghost use Rattle.table.specs.Refusal.{faultOf};
 ghost use Rattle.table.specs.Decision.{front};
 ghost use Rattle.point_marks.specs.Marks.{markAt};
 ghost use Rattle.compare.specs.Differences.{differing, differenceLength, handedBytes, stoppedAt};
-ghost use Rattle.compare.specs.Answer.{compareFault, compareAnswer, compareAfter};
+ghost use Rattle.compare.specs.Answer.{compareTests, compareAnswer, compareAfter};
+use table::Fault;
 use table::MAX_POINTS;
 
 // The bytes of a record, as `differenceLength` in specs/.
 pub const DIFFERENCE_LENGTH: usize = 4;
 
-// What comparing gives: the refusal or 0, how many records are written, the point to go on from, and how many points differ in all.
+// What comparing gives: the refusal or 0, its byte place, how many records are written, the point to go on from, and how many points differ in all.
 #[repr(C)]
 pub struct Comparison {
     pub refusal: u8,
+    pub place: usize,
     pub records: usize,
     pub next: usize,
     pub total: usize,
@@ -31,26 +34,26 @@ pub struct Stopped {
     pub next: usize,
 }
 
-// The refusal of comparing, or 0: the left table, the right table, both variable counts, the first point.
-fn compare_fault(left: &[u8], right: &[u8], first: usize) -> u8
-    ensures { λ r. ⌜ r ≡ compareFault (now (left .entry)) (now (right .entry)) first ⌝ }
+// What is wrong with comparing: the left table, the right table, both variable counts, the first point.
+fn compare_fault(left: &[u8], right: &[u8], first: usize) -> Fault
+    ensures { λ r. ⌜ r ≡ faultOf (compareTests (now (left .entry)) (now (right .entry)) first) ⌝ }
 {
     let left_fault = stored::stored_fault(left);
-    if left_fault != 0 {
+    if left_fault.number != 0 {
         return left_fault;
     }
     let right_fault = stored::stored_fault(right);
-    if right_fault != 0 {
+    if right_fault.number != 0 {
         return right_fault;
     }
     let n = stored::variables(left);
     if n != stored::variables(right) {
-        return table::COUNTS_FAULT;
+        return table::fault_at(table::COUNTS_FAULT, 0);
     }
     if first > (table::point_count(n) as usize) {
-        return table::FIRST_POINT_FAULT;
+        return table::fault_at(table::FIRST_POINT_FAULT, 0);
     }
-    0
+    table::fault_at(0, 0)
 }
 
 // How many points below the size differ. Counted in 16 bits, of which the compiler adds up more at once than of 64.
@@ -123,9 +126,10 @@ pub fn compare(left: &[u8], right: &[u8], first: usize, room: &mut [u8]) -> Comp
     ensures { λ r. ⌜ now (room .exit) ≡ compareAfter (now (left .entry)) (now (right .entry)) first (now (room .entry)) ⌝ }
 {
     let fault = compare_fault(left, right, first);
-    if fault != 0 {
+    if fault.number != 0 {
         return Comparison {
-            refusal: fault,
+            refusal: fault.number,
+            place: fault.place,
             records: 0,
             next: 0,
             total: 0,
@@ -138,6 +142,7 @@ pub fn compare(left: &[u8], right: &[u8], first: usize, room: &mut [u8]) -> Comp
     let stopped = write_differing(&left_marks, &right_marks, first, size, &mut *room);
     Comparison {
         refusal: 0,
+        place: 0,
         records: stopped.records,
         next: stopped.next,
         total,

@@ -1,6 +1,5 @@
 -- Reading is exact. What is written is read (`decoded`), what is read is a valid form and was written so (`form-valid`,
--- `rewritten-same`), so that bytes are accepted exactly if they encode a valid form (`form-exactly`); longer by any bytes they are refused
--- (`form-longer`). Read next: Cutting.
+-- `rewritten-same`), so that bytes are accepted exactly if they encode a valid form (`form-exactly`). Read next: Accepting.
 use mathlib.Core.Path.{_≡_, refl, sym, ap, _∙_, subst}
 use mathlib.Core.Bool.{true}
 use mathlib.Core.Logic.{_≢_, inl, inr, _↔_}
@@ -14,17 +13,15 @@ use Rattle.gf2.specs.Limits.{maxVariables}
 use Rattle.gf2.specs.Finite.{Mem}
 use Rattle.gf2.proofs.Logic.{and-r, and-i}
 use Rattle.records.specs.Kinds.{productKind, factorKind, endKind, wordOf, lowByte, highByte, Bytes, encodeEnd}
-use Rattle.records.proofs.KindBytes.{word-of-bytes, low-of-word, high-of-word}
+use Rattle.records.proofs.KindBytes.{word-of-bytes, low-of-word, high-of-word, end-bytes}
 use Rattle.table.proofs.Table.{good-count}
 use Rattle.product.specs.Product.{Factor, factor, fits, AllFit, Canonical, canonical, agrees}
 use Rattle.product.proofs.Product.{fits-is, canonical-is, canonical-next, canonical-prefix}
-use Rattle.records.specs.declared.Walk.the-variants.{After}
 use Rattle.form.specs.Form.{maxProducts, Form, ValidForm}
-use Rattle.form.specs.Encoding.{encodeFactors, encodeProducts, encodeForm}
+use Rattle.form.specs.Encoding.{encodeFactors, encodeProducts, encodeForm, EncodedForm}
 use Rattle.form.specs.Decoding.{Parts, noParts, partsFrom, decodeForm}
-use Rattle.form.specs.Walk.{walkedForm}
 use Rattle.form.specs.Refusal.{IsForm}
-use Rattle.form.proofs.Laying.{Laying, ends, begins, holds, LaidAs, form, walk-longer, is-form, form-laid}
+use Rattle.form.proofs.Laying.{Laying, ends, begins, holds, LaidAs, form, is-form, form-laid}
 
 -- ---- the parts of each record and of those that follow
 
@@ -240,28 +237,16 @@ products-bytes n (p ∷ ps) rest few fit b x (inl e) = omega arith
 products-bytes n (p ∷ ps) rest few fit b x (inr k) =
     factors-bytes n p (encodeProducts ps ++ rest) few (fit p (inl refl)) (products-bytes n ps rest few (λ q m. fit q (inr m)) b) x (rw (append-assoc (encodeFactors p) (encodeProducts ps) rest) at k)
 
-end-bytes : (count : ℕ) → count ≤ maxProducts → Bytes (encodeEnd count)
-end-bytes count few x (inl e) = omega arith
-end-bytes count few x (inr (inl e)) = omega arith
-end-bytes count few x (inr (inr (inl e))) = omega arith
-end-bytes count few x (inr (inr (inr e))) = absurd e
-
 pub encoded-bytes : (f : Form) → ValidForm f → Bytes (encodeForm f)
 unfolding encodeForm
 encoded-bytes f v x (inl e) = omega arith
 encoded-bytes f v x (inr (inl e)) = omega (arith, v .few)
 encoded-bytes f v x (inr (inr k)) =
-    products-bytes (f .variables) (f .products) (encodeEnd (length (f .products))) (v .few) (v .fitting) (end-bytes (length (f .products)) (v .short)) x k
+    products-bytes (f .variables) (f .products) (encodeEnd (length (f .products))) (v .few) (v .fitting) (end-bytes (length (f .products)) (omega (arith, v .short))) x k
 
 -- A list of bytes is accepted exactly if it is the encoding of a valid form.
-pub form-exactly : (bytes : List ℕ) → (Bytes bytes × IsForm bytes) ↔ ((f : Form) × ValidForm f × (bytes ≡ encodeForm f))
+pub form-exactly : (bytes : List ℕ) → (Bytes bytes × IsForm bytes) ↔ EncodedForm bytes
 form-exactly bytes = (
   λ h. (decodeForm bytes, form-valid bytes (h .1), sym (rewritten-same bytes (h .0) (h .1))),
   λ e. subst (λ (l : List ℕ). Bytes l × IsForm l) (sym (e .2)) (encoded-bytes (e .0) (e .1), encoded-form (e .0) (e .1)),
 )
-
--- ---- bytes after a form
-
--- Any byte after an accepted form is a fault at its place.
-pub form-longer : (bytes : List ℕ) → IsForm bytes → (byte : ℕ) (more : List ℕ) → walkedForm (bytes ++ (byte ∷ more)) ≡ After (length bytes)
-form-longer bytes h byte more = walk-longer (form-laid bytes h .1) (byte ∷ more)

@@ -13,8 +13,8 @@ use lib.ListN.{length, drop, getD}
 use Rattle.gf2.proofs.Logic.{clash}
 use Rattle.records.specs.declared.Kind.{Kind}
 use Rattle.records.specs.declared.Kind.the-variants.{Variables, Product, Factor as FactorKind, End, On, Free}
-use Rattle.records.specs.Kinds.{variablesKind, productKind, factorKind, endKind, bodyLength, wordOf}
-use Rattle.records.proofs.KindBytes.{kindByte, head-byte}
+use Rattle.records.specs.Kinds.{kindByte, variablesKind, productKind, factorKind, endKind, bodyLength, wordOf}
+use Rattle.records.proofs.KindBytes.{head-byte}
 use Rattle.table.specs.Table.{badCount}
 use Rattle.product.specs.Product.{Factor, factor, fits, agrees}
 use Rattle.records.specs.declared.Walk.{Walk}

@@ -1,5 +1,5 @@
 -- Laws of specs.Walk and specs.Counting: what a whole record says of the bytes that are left, and the walk as the loop meets it, a record
--- more at a time. Read next: Laying.
+-- more at a time. Read next: Ruling.
 use mathlib.Core.Path.{_≡_, refl, sym, ap, _∙_, subst}
 use mathlib.Core.Bool.{true, false, cond, _&&_, and-assoc}
 use mathlib.Core.List.{List, [], _∷_, _++_}
@@ -16,8 +16,7 @@ use Rattle.gf2.proofs.Logic.{and-true}
 use Rattle.gf2.proofs.Finite.{mem-snoc, snoc-mem}
 use Rattle.records.specs.declared.Kind.{Kind}
 use Rattle.records.specs.declared.Kind.the-variants.{Variables, Product, Factor as FactorKind, End, On, Free}
-use Rattle.records.specs.Kinds.{bodyLength}
-use Rattle.records.proofs.KindBytes.{kindByte}
+use Rattle.records.specs.Kinds.{kindByte, bodyLength}
 use Rattle.records.proofs.Walking.{pass}
 use Rattle.table.specs.Table.{badCount}
 use Rattle.product.specs.Product.{Factor, factor, AllFit, fits, apartMasks, apart, agrees}

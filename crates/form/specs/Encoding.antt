@@ -1,11 +1,12 @@
 -- The bytes of a form (document 01, "The written form"). That a list of bytes is accepted exactly if it is that of a valid form is
 -- `form-exactly`. Read next: Decoding.
+use mathlib.Core.Path.{_≡_}
 use mathlib.Core.List.{List, [], _∷_, _++_}
 use Prim.Native.Nat.{ℕ}
 use lib.ListN.{length}
 use Rattle.records.specs.Kinds.{variablesKind, productKind, factorKind, lowByte, highByte, encodeEnd}
 use Rattle.product.specs.Product.{Factor}
-use Rattle.form.specs.Form.{Form}
+use Rattle.form.specs.Form.{Form, ValidForm}
 
 -- The body of a factor: its constant, then its mask, low byte first.
 abbrev pub factorBody : Factor → List ℕ
@@ -24,3 +25,7 @@ encodeProducts (p ∷ ps) = productKind ∷ (encodeFactors p ++ encodeProducts p
 -- A form: 4E and n, its products, 45 and their number.
 unfoldable pub encodeForm : Form → List ℕ
 encodeForm f = variablesKind ∷ f .variables ∷ (encodeProducts (f .products) ++ encodeEnd (length (f .products)))
+
+-- The bytes are those of a valid form.
+abbrev pub EncodedForm : List ℕ → Type 0
+EncodedForm bytes = (f : Form) × ValidForm f × (bytes ≡ encodeForm f)

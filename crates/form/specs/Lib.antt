@@ -4,5 +4,6 @@ pub mod Form
 pub mod Encoding
 pub mod Decoding
 pub mod Walk
+pub mod Faults
 pub mod Counting
 pub mod Refusal

@@ -1,5 +1,5 @@
 -- The walk over the bytes of a form, from the left: it reports the first fault that it meets, with its byte place, or a form
--- (document 01, "The written form"; the faults and their places are those of document 02, No. 3). Read next: Counting.
+-- (document 01, "The written form"; the faults and their places are those of document 02, No. 3). Read next: Faults.
 use mathlib.Core.Bool.{cond}
 use mathlib.Core.List.{List, [], _∷_, _++_}
 use Prim.Native.Nat.{ℕ, _+_}

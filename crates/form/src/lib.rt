@@ -5,11 +5,12 @@ ghost use mathlib.Core.List.{[]};
 ghost use Prim.Native.Nat.{ℕ, _+_, _≤_, _<_};
 ghost use lib.ListN.{length, getD, drop};
 ghost use Rattle.gf2.specs.Limits.{maxVariables};
+ghost use Rattle.table.specs.Refusal.{faultOf};
 ghost use Rattle.records.specs.Kinds.{bodyLength};
 ghost use Rattle.records.specs.declared.Kind.the-variants.{Variables, Factor as FactorKind};
 ghost use Rattle.product.specs.Product.{agrees, factor, fits};
 ghost use Rattle.form.specs.Decoding.{factorOf};
-ghost use Rattle.form.specs.Refusal.{formFault};
+ghost use Rattle.form.specs.Refusal.{formTests};
 ghost use Rattle.records.specs.Walks.{bodyStep};
 ghost use Rattle.form.specs.Walk.{behind, variablesStep, firstFormStep, factorStep, productStep, formStep, walkFormFrom, walkedForm};
 ghost use Rattle.form.specs.Counting.{Counted, behindBy, countsAfter, factorLength, factorsBefore};
@@ -19,6 +20,7 @@ use records::PRODUCT_KIND;
 use records::RecordHead;
 use records::Step;
 use records::Walk;
+use table::Fault;
 
 // The most products of a form, as `maxProducts` in specs/.
 pub const MAX_PRODUCTS: usize = 64;
@@ -235,9 +237,9 @@ pub fn walk_form(bytes: &[u8]) -> Walk
     }
 }
 
-// The refusal of a form's bytes, or 0.
-pub fn form_fault(bytes: &[u8]) -> u8
-    ensures { λ r. ⌜ r ≡ formFault (now (bytes .entry)) ⌝ }
+// What is wrong with a form's bytes.
+pub fn form_fault(bytes: &[u8]) -> Fault
+    ensures { λ r. ⌜ r ≡ faultOf (formTests (now (bytes .entry))) ⌝ }
 {
     records::layout_fault(walk_form(bytes))
 }

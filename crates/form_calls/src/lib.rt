@@ -18,18 +18,20 @@ use form::PRODUCT_LENGTH;
 use records::FACTOR_KIND;
 use records::PRODUCT_KIND;
 
-// What reading the points gives: the refusal or 0, n, and how many points there are.
+// What reading the points gives: the refusal or 0, its byte place, n, and how many points there are.
 #[repr(C)]
 pub struct FormPoints {
     pub refusal: u8,
+    pub place: usize,
     pub variables: usize,
     pub count: usize,
 }
 
-// What writing a form again gives: the refusal or 0, and how many bytes are written.
+// What writing a form again gives: the refusal or 0, its byte place, and how many bytes are written.
 #[repr(C)]
 pub struct FormRewrite {
     pub refusal: u8,
+    pub place: usize,
     pub length: usize,
 }
 
@@ -107,15 +109,16 @@ fn write_points(bytes: &[u8], size: u16, room: &mut [u16])
     }
 }
 
-// The points of a form, rising, at the front of the room; refused are bytes that are no form (8), then a room that is short (7).
+// The points of a form, rising, at the front of the room; refused are bytes that are no form (20 to 27), then a room that is short (7).
 pub fn form_points(bytes: &[u8], room: &mut [u16]) -> FormPoints
     ensures { λ r. ⌜ r ≡ pointsAnswer (now (bytes .entry)) (now (room .entry)) ⌝ }
     ensures { λ r. ⌜ now (room .exit) ≡ pointsAfter (now (bytes .entry)) (now (room .entry)) ⌝ }
 {
     let fault = form::form_fault(bytes);
-    if fault != 0 {
+    if fault.number != 0 {
         return FormPoints {
-            refusal: fault,
+            refusal: fault.number,
+            place: fault.place,
             variables: 0,
             count: 0,
         };
@@ -126,6 +129,7 @@ pub fn form_points(bytes: &[u8], room: &mut [u16]) -> FormPoints
     if room.len() < count {
         return FormPoints {
             refusal: table::ROOM_FAULT,
+            place: 0,
             variables: 0,
             count: 0,
         };
@@ -133,33 +137,37 @@ pub fn form_points(bytes: &[u8], room: &mut [u16]) -> FormPoints
     write_points(bytes, size, room);
     FormPoints {
         refusal: 0,
+        place: 0,
         variables: n,
         count: count,
     }
 }
 
-// A form that was read, written to the front of the room, which gives the same bytes; refused are bytes that are no form (8), then a room that
-// is short (7).
+// A form that was read, written to the front of the room, which gives the same bytes; refused are bytes that are no form (20 to 27), then a
+// room that is short (7).
 pub fn form_rewrite(bytes: &[u8], room: &mut [u8]) -> FormRewrite
     ensures { λ r. ⌜ r ≡ rewriteAnswer (now (bytes .entry)) (now (room .entry)) ⌝ }
     ensures { λ r. ⌜ now (room .exit) ≡ rewriteAfter (now (bytes .entry)) (now (room .entry)) ⌝ }
 {
     let fault = form::form_fault(bytes);
-    if fault != 0 {
+    if fault.number != 0 {
         return FormRewrite {
-            refusal: fault,
+            refusal: fault.number,
+            place: fault.place,
             length: 0,
         };
     }
     if room.len() < bytes.len() {
         return FormRewrite {
             refusal: table::ROOM_FAULT,
+            place: 0,
             length: 0,
         };
     }
     bytes::copy(bytes, &mut *room);
     FormRewrite {
         refusal: 0,
+        place: 0,
         length: bytes.len(),
     }
 }

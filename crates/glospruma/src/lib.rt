@@ -24,7 +24,8 @@ use report::ReportWritten;
 use stored::TableRead;
 use writing::FormWritten;
 
-// A stored table read into two rooms, one for its on points and one for its free points. Refusals 8, then 1, 2, 3, then 7 for either room.
+// A stored table read into two rooms, one for its on points and one for its free points. Refusals 20, 21, 25, 26, then 1, 2, 3, then 7 for
+// either room.
 #[no_mangle]
 pub extern "C" fn glospruma_read_table(bytes: &[u8], on: &mut [u16], free: &mut [u16]) -> TableRead
     ensures { λ r. ⌜ r ≡ readAnswer (now (bytes .entry)) (length (now (on .entry))) (length (now (free .entry))) ⌝ }
@@ -35,7 +36,8 @@ pub extern "C" fn glospruma_read_table(bytes: &[u8], on: &mut [u16], free: &mut 
 }
 
 // Two stored tables compared from a first point on: a record at the front of the room for each point that they mark differently, until one doesn't fit,
-// and the number of all such points. Refusals 8, 1, 2, 3 of the left table, then of the right one, then 10, 11; a room that runs short stops the listing.
+// and the number of all such points. Refusals 20, 21, 25, 26, 1, 2, 3 of the left table, then of the right one, then 10, 11; a room that runs short stops the
+// listing.
 #[no_mangle]
 pub extern "C" fn glospruma_compare(
     left: &[u8],
@@ -94,7 +96,7 @@ pub extern "C" fn glospruma_affine(n: usize, on: &[u16], room: &mut [u16]) -> Af
     analysis::affine(n, on, &mut *room)
 }
 
-// The points of a form, rising, at the front of the room. Refusals 8, then 7.
+// The points of a form, rising, at the front of the room. Refusals 20 to 27, then 7.
 #[no_mangle]
 pub extern "C" fn glospruma_form_points(bytes: &[u8], room: &mut [u16]) -> FormPoints
     ensures { λ r. ⌜ r ≡ pointsAnswer (now (bytes .entry)) (now (room .entry)) ⌝ }
@@ -103,7 +105,7 @@ pub extern "C" fn glospruma_form_points(bytes: &[u8], room: &mut [u16]) -> FormP
     form_calls::form_points(bytes, &mut *room)
 }
 
-// A form read and written again, at the front of the room: the same bytes. Refusals 8, then 7.
+// A form read and written again, at the front of the room: the same bytes. Refusals 20 to 27, then 7.
 #[no_mangle]
 pub extern "C" fn glospruma_form_rewrite(bytes: &[u8], room: &mut [u8]) -> FormRewrite
     ensures { λ r. ⌜ r ≡ rewriteAnswer (now (bytes .entry)) (now (room .entry)) ⌝ }

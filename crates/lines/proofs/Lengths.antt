@@ -1,6 +1,6 @@
 -- How long the lines can be. Crate `table_report` adds them up. Read next: Examples.
 use mathlib.Core.Path.{_≡_, refl}
-use mathlib.Core.Bool.{Bool}
+use mathlib.Core.Bool.{Bool, true, false}
 use mathlib.Core.Logic.{inl, inr}
 use mathlib.Core.List.{List, [], _∷_, _++_, flatMap}
 use Prim.Native.Nat.{ℕ, suc, _+_, _-_, _*_, _≤_, _<_}
@@ -12,12 +12,14 @@ use Rattle.gf2.specs.Finite.{Mem}
 use Rattle.gf2.specs.Basis.{placesAt, variablesAt}
 use Rattle.gf2.proofs.Finite.{map-mem}
 use Rattle.gf2.proofs.Variables.{places-count}
+use Rattle.table.specs.Refusal.{hasPlace}
 use Rattle.product.specs.Product.{Factor}
 use Rattle.text.specs.Decimal.{decimal}
 use Rattle.text.specs.Pieces.{labelled, spacedNumber, spaced, name, names}
 use Rattle.text.proofs.Decimal.{decimal-length}
-use Rattle.lines.specs.Words.{freeWord, equalsWord, plusWord, plusSign, equalsSign, lineEnd}
-use Rattle.lines.specs.Lines.{numberLine, countsLine, numbersText, numbersLine, variablesText, equationLine, equationLines, factorText, productText, productLine, productLines}
+use Rattle.lines.specs.Words.{freeWord, refusedWord, atWord, equalsWord, plusWord, plusSign, equalsSign, lineEnd}
+use Rattle.lines.proofs.Lines.{fault-placed, fault-alone}
+use Rattle.lines.specs.Lines.{numberLine, faultLine, countsLine, numbersText, numbersLine, variablesText, equationLine, equationLines, factorText, productText, productLine, productLines}
 
 -- Texts of at most b bytes each.
 pub flat-length : {A : Type 0} (f : A → List ℕ) (b : ℕ) (l : List A) → ((a : A) → Mem a l → length (f a) ≤ b) → length (flatMap f l) ≤ b * length l
@@ -35,6 +37,22 @@ four-digits n h = decimal-length 3 n h
 pub number-length : (word : List ℕ) (n k : ℕ) → length (decimal n) ≤ k → length (numberLine word n) ≤ length word + k + 1
 unfolding numberLine
 number-length word n k h = omega (arith, length-append (labelled word n) lineEnd, length-append word (decimal n))
+
+-- A refusal below 100 with a place below 100,000.
+pub fault-length : (number place : ℕ) → number < 100 → place < 100000 → length (faultLine number place) ≤ 20
+fault-length number place h k = go (hasPlace number) refl
+  where
+    go : (t : Bool) → hasPlace number ≡ t → length (faultLine number place) ≤ 20
+    go true e =
+        rw (← fault-placed number place e)
+        (omega (
+          arith,
+          length-append (labelled refusedWord number) (numberLine atWord place),
+          length-append refusedWord (decimal number),
+          two-digits number h,
+          number-length atWord place 5 (decimal-length 4 place k),
+        ))
+    go false e = rw (← fault-alone number place e) (omega (arith, number-length refusedWord number 2 (two-digits number h)))
 
 pub counts-length : (on free : ℕ) → on < 10000 → free < 10000 → length (countsLine on free) ≤ 18
 unfolding countsLine

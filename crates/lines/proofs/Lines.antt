@@ -1,12 +1,16 @@
 -- The lists of specs.Lines as texts made of pieces, one for each place of a list. Read next: Lengths.
 use mathlib.Core.Path.{_≡_, refl, sym, ap, _∙_}
+use mathlib.Core.Bool.{true, false}
 use mathlib.Core.List.{List, [], _∷_, _++_, zipWith, flatMap}
 use Prim.Native.Nat.{ℕ, zero, suc, _+_}
 use native.Mathlib.Omega.{arith}
 use lib.ListN.{length, getD}
+use Rattle.table.specs.Refusal.{hasPlace}
 use Rattle.product.specs.Product.{factor}
 use Rattle.text.proofs.Pieces.{pieces, pieces-same, pieces-front, flat-pieces}
-use Rattle.lines.specs.Lines.{listText, equationLine, equationLines, factorText}
+use Rattle.text.specs.Pieces.{labelled}
+use Rattle.lines.specs.Words.{refusedWord, atWord}
+use Rattle.lines.specs.Lines.{numberLine, faultLine, listText, equationLine, equationLines, factorText}
 
 -- An empty list prints as a word of its own, any other as its elements.
 module _ {A : Type 0} (empty : List ℕ) (some : List A → List ℕ) where
@@ -17,6 +21,16 @@ module _ {A : Type 0} (empty : List ℕ) (some : List A → List ℕ) where
   pub list-some : (l : List A) → (length l ≡ 0 → ⊥) → some l ≡ listText empty some l
   list-some [] e = absurd (e refl)
   list-some (a ∷ l) e = refl
+
+-- A refusal prints its place where its number has one.
+module _ (number place : ℕ) where
+  pub fault-placed : hasPlace number ≡ true → labelled refusedWord number ++ numberLine atWord place ≡ faultLine number place
+  unfolding faultLine
+  fault-placed e = rw e
+
+  pub fault-alone : hasPlace number ≡ false → numberLine refusedWord number ≡ faultLine number place
+  unfolding faultLine
+  fault-alone e = rw e
 
 -- The line of the equation at a place of a list of masks.
 abbrev pub equationAt : ℕ → ℕ → List ℕ → ℕ → List ℕ

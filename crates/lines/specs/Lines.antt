@@ -1,16 +1,22 @@
 -- The lines of the printed report, each with its newline (document 01, "The printed report").
 -- Read next: crate `table_report`, which puts them together.
+use mathlib.Core.Bool.{cond}
 use mathlib.Core.List.{List, [], _∷_, _++_, flatMap}
 use Prim.Native.Nat.{ℕ, _+_}
 use Rattle.gf2.specs.Bits.{bit}
 use Rattle.gf2.specs.Basis.{placesAt, variablesAt}
+use Rattle.table.specs.Refusal.{hasPlace}
 use Rattle.product.specs.Product.{Factor}
 use Rattle.text.specs.Pieces.{labelled, blankWord, spaced, names}
-use Rattle.lines.specs.Words.{onWord, freeWord, equationLetter, equalsWord, plusWord, noneWord, productWord, oneWord, plusSign, equalsSign, lineEnd}
+use Rattle.lines.specs.Words.{onWord, freeWord, equationLetter, equalsWord, plusWord, noneWord, productWord, oneWord, plusSign, equalsSign, refusedWord, atWord, lineEnd}
 
 -- A word and a number: `variables 4`, `degree 1`, `refused 5`.
 unfoldable pub numberLine : List ℕ → ℕ → List ℕ
 numberLine word n = labelled word n ++ lineEnd
+
+-- A refusal with its place, `refused 21 at 0`, or without one, `refused 3` (document 02, No. 3).
+unfoldable pub faultLine : ℕ → ℕ → List ℕ
+faultLine number place = cond (hasPlace number) (labelled refusedWord number ++ numberLine atWord place) (numberLine refusedWord number)
 
 -- `on 10 free 0`
 unfoldable pub countsLine : ℕ → ℕ → List ℕ

@@ -62,6 +62,10 @@ equalsSign = 61 ∷ []
 abbrev pub refusedWord : List ℕ
 refusedWord = 114 ∷ 101 ∷ 102 ∷ 117 ∷ 115 ∷ 101 ∷ 100 ∷ 32 ∷ []
 
+-- ` at `
+abbrev pub atWord : List ℕ
+atWord = 32 ∷ 97 ∷ 116 ∷ 32 ∷ []
+
 -- one newline
 abbrev pub lineEnd : List ℕ
 lineEnd = 10 ∷ []

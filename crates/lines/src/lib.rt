@@ -7,7 +7,7 @@ ghost use lib.ListN.{length};
 ghost use Rattle.gf2.specs.Limits.{maxVariables};
 ghost use Rattle.product.specs.Product.{factor};
 ghost use Rattle.text.specs.Writing.{HasRoom, Wrote};
-ghost use Rattle.lines.specs.Lines.{numberLine, countsLine, numbersText, numbersLine, variablesText, equationLine, equationLines, factorText, productText, productLine};
+ghost use Rattle.lines.specs.Lines.{numberLine, faultLine, countsLine, numbersText, numbersLine, variablesText, equationLine, equationLines, factorText, productText, productLine};
 
 // A word and a number.
 pub fn number_line(room: &mut [u8], at: usize, word: &[u8], n: usize) -> usize
@@ -16,6 +16,18 @@ pub fn number_line(room: &mut [u8], at: usize, word: &[u8], n: usize) -> usize
 {
     let end = text::write_labelled(&mut *room, at, word, n);
     text::write_word(&mut *room, end, b"\n")
+}
+
+// A refusal, with its byte place if its number has one.
+pub fn fault_line(room: &mut [u8], at: usize, number: u8, place: usize) -> usize
+    requires { ⌜ HasRoom (now room) at (faultLine number place) ⌝ }
+    ensures { λ r. ⌜ Wrote (now (room .entry)) at (faultLine number place) (now (room .exit)) r ⌝ }
+{
+    if !table::has_place(number) {
+        return number_line(&mut *room, at, b"refused ", number as usize);
+    }
+    let rest = text::write_labelled(&mut *room, at, b"refused ", number as usize);
+    number_line(&mut *room, rest, b" at ", place)
 }
 
 // The numbers of on points and of free points.

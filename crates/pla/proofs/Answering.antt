@@ -13,7 +13,7 @@ use borrow.Author.Tests.{eq-eqb, ne-eqb, ltb-true, ltb-false}
 use Rattle.gf2.specs.Limits.{maxVariables}
 use Rattle.gf2.specs.Finite.{holds}
 use Rattle.gf2.proofs.Finite.{append-mem}
-use Rattle.table.specs.Refusal.{Test, firstFault, Numbered, Exact, roomFault}
+use Rattle.table.specs.Refusal.{Test, test, firstFault, Numbered, Exact, roomFault}
 use Rattle.table.specs.Decision.{decide, front, roomAfter, roomTest}
 use Rattle.table.proofs.Refusal.{numbered}
 use Rattle.table.proofs.Decide.{decide-accepted, decide-refused, decide-exact, call-refused, call-short, call-accepted}
@@ -58,7 +58,7 @@ text-numbered output f = go (ℕ-discrete (f .fault) 0)
     go (yes e) = rw (eq-eqb (f .fault) 0 e) (numbered (endTests output (f .head)) refl)
     go (no n) = rw (ne-eqb (f .fault) 0 n) (alone n)
       where
-        alone : f .fault ≢ 0 → Numbered (record { number = f .fault; applies = not false } ∷ [])
+        alone : f .fault ≢ 0 → Numbered (test (f .fault) (not false) ∷ [])
         alone n t (inl e) z = n (sym (ap (λ (x : Test). x .number) e) ∙ z)
         alone n t (inr k) z = k
 

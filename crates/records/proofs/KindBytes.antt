@@ -2,6 +2,8 @@
 -- Read next: Whole.
 use mathlib.Core.Path.{_≡_, refl, subst}
 use mathlib.Core.Bool.{Bool, true, false, cond}
+use mathlib.Core.Logic.{inl, inr}
+use mathlib.Core.List.{List, _∷_}
 use Prim.Native.Nat.{ℕ, _<_}
 use native.Mathlib.Omega.{arith}
 use lib.Dec.{eqb}
@@ -11,16 +13,7 @@ use Rattle.records.specs.declared.Kind.the-variants.{Variables, Product,
 use Rattle.records.specs.declared.Walk.the-variants.{WrongKind}
 use Rattle.records.specs.declared.RecordHead.{RecordHead}
 use Rattle.records.specs.declared.RecordHead.the-variants.{Known, Refused}
-use Rattle.records.specs.Kinds.{variablesKind, productKind, factorKind, endKind, onKind, freeKind, bodyLength, known, headOf, wordOf, lowByte, highByte}
-
--- The byte of a kind.
-abbrev pub kindByte : Kind → ℕ
-kindByte Variables = variablesKind
-kindByte Product = productKind
-kindByte Factor = factorKind
-kindByte End = endKind
-kindByte On = onKind
-kindByte Free = freeKind
+use Rattle.records.specs.Kinds.{variablesKind, productKind, factorKind, endKind, onKind, freeKind, kindByte, bodyLength, known, headOf, wordOf, lowByte, highByte, Bytes, encodeEnd}
 
 -- That byte is decided as that kind, wherever it stands.
 pub head-byte : (kind : Kind) (place : ℕ) → headOf (kindByte kind) place ≡ known kind
@@ -71,3 +64,19 @@ low-of-word low high h = omega arith
 
 pub high-of-word : (low high : ℕ) → low < 256 → highByte (wordOf low high) ≡ high
 high-of-word low high h = omega arith
+
+-- The bytes of the end record.
+pub end-bytes : (count : ℕ) → count < 65536 → Bytes (encodeEnd count)
+end-bytes count h x (inl e) = omega arith
+end-bytes count h x (inr (inl e)) = omega arith
+end-bytes count h x (inr (inr (inl e))) = omega arith
+end-bytes count h x (inr (inr (inr e))) = absurd e
+
+-- The shortest table, which is the shortest form too: of one variable, without points or products.
+abbrev pub shortest : List ℕ
+shortest = variablesKind ∷ 1 ∷ encodeEnd 0
+
+pub shortest-bytes : Bytes shortest
+shortest-bytes x (inl e) = omega arith
+shortest-bytes x (inr (inl e)) = omega arith
+shortest-bytes x (inr (inr m)) = end-bytes 0 (omega arith) x m

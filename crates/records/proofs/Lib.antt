@@ -2,3 +2,7 @@
 pub mod KindBytes
 pub mod Whole
 pub mod Walking
+pub mod Numbers
+pub mod Places
+pub mod Ruling
+pub mod Paths

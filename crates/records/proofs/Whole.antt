@@ -14,9 +14,9 @@ use Rattle.records.specs.declared.Walk.{Walk}
 use Rattle.records.specs.declared.Walk.the-variants.{Laid, Missing}
 use Rattle.records.specs.declared.Step.{Step}
 use Rattle.records.specs.declared.Step.the-variants.{Whole, Stop}
-use Rattle.records.specs.Kinds.{bodyLength, headOf}
+use Rattle.records.specs.Kinds.{kindByte, bodyLength, headOf}
 use Rattle.records.specs.Walks.{headStep, bodyStep, goOn, isFault}
-use Rattle.records.proofs.KindBytes.{kindByte, head-cases}
+use Rattle.records.proofs.KindBytes.{head-cases}
 
 -- A whole record is not the end of the walk.
 pub not-whole : {A : Type 0} {w : Walk} {l : ℕ} → Stop w ≡ Whole l → A

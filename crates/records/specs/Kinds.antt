@@ -30,6 +30,15 @@ onKind = 0x4F
 abbrev pub freeKind : ℕ
 freeKind = 0x44
 
+-- The byte of a kind.
+abbrev pub kindByte : Kind → ℕ
+kindByte Variables = variablesKind
+kindByte Product = productKind
+kindByte Factor = factorKind
+kindByte End = endKind
+kindByte On = onKind
+kindByte Free = freeKind
+
 -- The length of the body that a kind fixes.
 abbrev pub bodyLength : Kind → ℕ
 bodyLength Variables = 1

@@ -1,12 +1,13 @@
 -- What the walks over the bytes of tables and forms share: the body of a record, the end record, the walk from record to record, and the
 -- refusal of what it finds (document 01, "The written form"; the faults and their places are those of document 02, No. 3).
--- Read next: crate `stored`, which walks over a stored table, and crate `form`.
-use mathlib.Core.Bool.{Bool, true, false, cond}
-use mathlib.Core.List.{List, [], _∷_}
+-- Read next: Faults.
+use mathlib.Core.Bool.{Bool, cond, not}
+use mathlib.Core.List.{List, [], _∷_, map}
 use Prim.Native.Nat.{ℕ, zero, suc, _+_}
 use lib.Dec.{eqb, leb}
 use lib.ListN.{length, getD, drop}
-use Rattle.table.specs.Refusal.{Test, test, firstFault, layoutFault}
+use Rattle.table.specs.declared.Fault.{Fault}
+use Rattle.table.specs.Refusal.{Test, testAt, faultAt, wrongKindFault, bytesMissingFault, wrongVariablesFault, wrongFactorFault, notCanonicalFault, wrongCountFault, bytesAfterFault, tooManyProductsFault}
 use Rattle.records.specs.declared.Kind.{Kind}
 use Rattle.records.specs.declared.RecordHead.{RecordHead}
 use Rattle.records.specs.declared.RecordHead.the-variants.{Known, Refused}
@@ -56,22 +57,38 @@ module _ {S : Type 0} (step : S → ℕ → ℕ → List ℕ → Step) (next : S
 abbrev pub bytesMissing : {S : Type 0} → S → ℕ → Walk
 bytesMissing behind place = Missing place
 
+-- The refusal number of what a walk found, 0 for what was asked for.
+abbrev pub faultNumber : Walk → ℕ
+faultNumber (Laid count) = 0
+faultNumber (WrongKind place) = wrongKindFault
+faultNumber (Missing place) = bytesMissingFault
+faultNumber (WrongVariables place) = wrongVariablesFault
+faultNumber (WrongFactor place) = wrongFactorFault
+faultNumber (NotCanonical place) = notCanonicalFault
+faultNumber (WrongCount place) = wrongCountFault
+faultNumber (After place) = bytesAfterFault
+faultNumber (TooMany place) = tooManyProductsFault
+
+-- The place of the fault, 0 without one.
+abbrev pub faultPlace : Walk → ℕ
+faultPlace (Laid count) = 0
+faultPlace (WrongKind place) = place
+faultPlace (Missing place) = place
+faultPlace (WrongVariables place) = place
+faultPlace (WrongFactor place) = place
+faultPlace (NotCanonical place) = place
+faultPlace (WrongCount place) = place
+faultPlace (After place) = place
+faultPlace (TooMany place) = place
+
+-- Both as one value.
+abbrev pub faultFound : Walk → Fault
+faultFound found = faultAt (faultNumber found) (faultPlace found)
+
 -- A walk met a fault.
 abbrev pub isFault : Walk → Bool
-isFault (Laid count) = false
-isFault (WrongKind place) = true
-isFault (Missing place) = true
-isFault (WrongVariables place) = true
-isFault (WrongFactor place) = true
-isFault (NotCanonical place) = true
-isFault (WrongCount place) = true
-isFault (After place) = true
-isFault (TooMany place) = true
+isFault found = not (eqb (faultNumber found) 0)
 
--- The tests of the layout: document 01 has one number for every fault that a walk meets; document 02, No. 3 gives each its own.
-abbrev pub layoutTests : Walk → List Test
-layoutTests found = test layoutFault (isFault found) ∷ []
-
--- The refusal number of what the walk found, or 0.
-unfoldable pub layoutOf : Walk → ℕ
-layoutOf found = firstFault (layoutTests found)
+-- The tests of the layout, one for each of these numbers: that the walk met the fault of that number, with the place where it did.
+abbrev pub layoutTests : List ℕ → Walk → List Test
+layoutTests numbers found = map (λ number. testAt number (faultPlace found) (eqb (faultNumber found) number)) numbers

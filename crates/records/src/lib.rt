@@ -7,7 +7,16 @@ ghost use lib.ListN.{length, drop};
 ghost use lib.Seq.{sets};
 ghost use Rattle.records.specs.Kinds.{bodyLength, headOf, wordOf, lowByte, highByte, encodeRecord, wordRecordLength, encodeEnd};
 ghost use Rattle.records.specs.declared.Kind.the-variants.{End};
-ghost use Rattle.records.specs.Walks.{bodyStep, endStep, layoutOf};
+ghost use Rattle.records.specs.Walks.{bodyStep, endStep, faultFound};
+use table::BYTES_AFTER_FAULT;
+use table::BYTES_MISSING_FAULT;
+use table::Fault;
+use table::NOT_CANONICAL_FAULT;
+use table::TOO_MANY_PRODUCTS_FAULT;
+use table::WRONG_COUNT_FAULT;
+use table::WRONG_FACTOR_FAULT;
+use table::WRONG_KIND_FAULT;
+use table::WRONG_VARIABLES_FAULT;
 
 // The kind bytes, as the constants of the same names in specs/.
 pub const VARIABLES_KIND: u8 = 0x4E;
@@ -149,19 +158,19 @@ pub fn end_step(bytes: &[u8], count: usize, place: usize, body: usize) -> Step
     }
 }
 
-// The refusal number of what a walk found, or 0.
-pub fn layout_fault(found: Walk) -> u8
-    ensures { λ r. ⌜ r ≡ layoutOf found ⌝ }
+// What is wrong by what a walk found: the refusal number with its place, or 0 for both.
+pub fn layout_fault(found: Walk) -> Fault
+    ensures { λ r. ⌜ r ≡ faultFound found ⌝ }
 {
     match found {
-        Walk::Laid(_) => 0,
-        Walk::WrongKind(_) => table::LAYOUT_FAULT,
-        Walk::Missing(_) => table::LAYOUT_FAULT,
-        Walk::WrongVariables(_) => table::LAYOUT_FAULT,
-        Walk::WrongFactor(_) => table::LAYOUT_FAULT,
-        Walk::NotCanonical(_) => table::LAYOUT_FAULT,
-        Walk::WrongCount(_) => table::LAYOUT_FAULT,
-        Walk::After(_) => table::LAYOUT_FAULT,
-        Walk::TooMany(_) => table::LAYOUT_FAULT,
+        Walk::Laid(_) => table::fault_at(0, 0),
+        Walk::WrongKind(place) => table::fault_at(WRONG_KIND_FAULT, place),
+        Walk::Missing(place) => table::fault_at(BYTES_MISSING_FAULT, place),
+        Walk::WrongVariables(place) => table::fault_at(WRONG_VARIABLES_FAULT, place),
+        Walk::WrongFactor(place) => table::fault_at(WRONG_FACTOR_FAULT, place),
+        Walk::NotCanonical(place) => table::fault_at(NOT_CANONICAL_FAULT, place),
+        Walk::WrongCount(place) => table::fault_at(WRONG_COUNT_FAULT, place),
+        Walk::After(place) => table::fault_at(BYTES_AFTER_FAULT, place),
+        Walk::TooMany(place) => table::fault_at(TOO_MANY_PRODUCTS_FAULT, place),
     }
 }

@@ -13,24 +13,31 @@ use lib.ListN.{length, take, drop}
 use lib.Seq.{take-at, take-all, length-take-le}
 use borrow.Author.Tests.{le-ltb}
 use Rattle.gf2.proofs.Finite.{rising-length}
-use Rattle.table.specs.Refusal.{Test, firstFault, roomFault, layoutFault}
+use Rattle.table.specs.Refusal.{Test, firstFault, roomFault}
+use Rattle.table.specs.declared.Fault.{Fault}
 use Rattle.table.specs.Decision.{front}
 use Rattle.table.specs.Table.{Accepted}
 use Rattle.table.specs.Flags.{maxPoints}
 use Rattle.table.proofs.Fill.{fill-length}
 use Rattle.table.proofs.Decide.{decide-accepted, decide-refused, call-short, call-accepted}
 use Rattle.stored.specs.declared.TableRead.{TableRead}
-use Rattle.stored.specs.Layout.{longestTable}
+use Rattle.records.specs.declared.Walk.{Walk}
+use Rattle.records.specs.Walks.{faultNumber, faultPlace}
+use Rattle.records.proofs.Numbers.{some-number}
+use Rattle.stored.specs.Layout.{walked, longestTable}
 use Rattle.stored.specs.Marks.{storedVariables, storedOn, storedFree}
-use Rattle.stored.specs.Stored.{storedTests, storedFault}
+use Rattle.stored.specs.Stored.{storedTests, storedFault, storedPlace}
 use Rattle.stored.specs.Reading.{readFault, readAccepted, readAnswer, readOnAfter, readFreeAfter}
 use Rattle.stored.proofs.Laying.{too-long}
-use Rattle.stored.proofs.Accepting.{stored-accepted}
-use Rattle.stored.proofs.Rooms.{stored-first, then-room, refused-read, accepted-read, accepted-on, accepted-free}
+use Rattle.stored.proofs.Bounds.{walked-start}
+use Rattle.stored.proofs.Accepting.{stored-layout, stored-inside, stored-accepted}
+use Rattle.stored.proofs.Rooms.{stored-first, stored-place, then-room, refused-read, accepted-read, accepted-on, accepted-free}
 use Rattle.text.specs.Writing.{HasRoom}
 use Rattle.report.specs.declared.ReportWritten.{ReportWritten}
-use Rattle.table_report.specs.Text.{refusedLine, tableText}
-use Rattle.table_report.proofs.Fitting.{refused-fits, table-fits}
+use Rattle.lines.specs.Lines.{faultLine}
+use Rattle.lines.proofs.Lengths.{fault-length}
+use Rattle.table_report.specs.Text.{tableText}
+use Rattle.table_report.proofs.Fitting.{table-fits}
 use Rattle.report.specs.Report.{reportText}
 use Rattle.report.specs.Answer.{textRoom, reportAccepted, reportRefused, reportAnswer, reportAfter}
 
@@ -54,18 +61,23 @@ pub stored-low : (bytes : List ℕ) → storedFault bytes < 100
 unfolding storedFault numbersOf
 stored-low bytes = omega (arith, fault-low (storedTests bytes))
 
+-- The report of a refused table is its refusal, and that of any other its text.
+pub report-refused : (bytes : List ℕ) → storedFault bytes ≢ 0 → reportText bytes ≡ faultLine (storedFault bytes) (storedPlace bytes)
+unfolding reportText storedFault
+report-refused bytes z =
+    decide-refused (storedTests bytes) (tableText (storedVariables bytes) (storedOn bytes) (storedFree bytes)) (λ number. faultLine number (storedPlace bytes)) (storedFault bytes) z refl
+
+pub report-read : (bytes : List ℕ) → storedFault bytes ≡ 0 → reportText bytes ≡ tableText (storedVariables bytes) (storedOn bytes) (storedFree bytes)
+unfolding reportText storedFault
+report-read bytes e = decide-accepted (storedTests bytes) (tableText (storedVariables bytes) (storedOn bytes) (storedFree bytes)) (λ number. faultLine number (storedPlace bytes)) e
+
 -- Every report fits into `textRoom` bytes.
 pub report-fits : (bytes : List ℕ) → length (reportText bytes) ≤ textRoom
-unfolding reportText storedFault
 report-fits bytes = go (ℕ-discrete (storedFault bytes) 0)
   where
     go : Dec (storedFault bytes ≡ 0) → length (reportText bytes) ≤ textRoom
-    go (yes e) =
-        rw (decide-accepted (storedTests bytes) (tableText (storedVariables bytes) (storedOn bytes) (storedFree bytes)) refusedLine e)
-        (omega (arith, table-fits (storedVariables bytes) (storedOn bytes) (storedFree bytes) (stored-accepted bytes e)))
-    go (no z) =
-        rw (decide-refused (storedTests bytes) (tableText (storedVariables bytes) (storedOn bytes) (storedFree bytes)) refusedLine (storedFault bytes) z refl)
-        (omega (arith, refused-fits (storedFault bytes) (stored-low bytes)))
+    go (yes e) = rw (report-read bytes e) (omega (arith, table-fits (storedVariables bytes) (storedOn bytes) (storedFree bytes) (stored-accepted bytes e)))
+    go (no z) = rw (report-refused bytes z) (omega (arith, fault-length (storedFault bytes) (storedPlace bytes) (stored-low bytes) (omega (arith, stored-inside bytes))))
 
 -- A room of `textRoom` bytes is long enough.
 pub report-long : (bytes room : List ℕ) → length room ≡ textRoom → length (reportText bytes) ≤ length room
@@ -74,10 +86,15 @@ report-long bytes room e = omega (arith, report-fits bytes)
 pub report-room : (bytes room : List ℕ) → length room ≡ textRoom → HasRoom room 0 (reportText bytes)
 report-room bytes room e = record { fits = omega (arith, report-long bytes room e) }
 
--- An input longer than the longest table is refused, whatever it holds; so its first bytes, one more than that table has, have its report.
-pub report-beyond : (bytes : List ℕ) → longestTable < length bytes → reportText bytes ≡ refusedLine layoutFault
-unfolding reportText firstFault
-report-beyond bytes h = rw (too-long bytes h)
+-- An input longer than the longest table is refused for what its bytes up to one more hold; so these have its report.
+report-beyond : (bytes : List ℕ) → longestTable < length bytes → reportText bytes ≡ faultLine (faultNumber (walked bytes)) (faultPlace (walked bytes))
+unfolding storedFault storedPlace
+report-beyond bytes h =
+    let n = some-number (walked bytes) (too-long bytes h) in
+    let e = stored-layout bytes n in
+    let number : storedFault bytes ≡ faultNumber (walked bytes) = ap (λ (f : Fault). f .number) e in
+    let place : storedPlace bytes ≡ faultPlace (walked bytes) = ap (λ (f : Fault). f .place) e in
+    report-refused bytes (λ z. n (sym number ∙ z)) ∙ ap (λ (k : ℕ). faultLine k (storedPlace bytes)) number ∙ ap (faultLine (faultNumber (walked bytes))) place
 
 pub report-start : (bytes : List ℕ) → reportText (take (longestTable + 1) bytes) ≡ reportText bytes
 report-start bytes = go (decLt longestTable (length bytes))
@@ -85,7 +102,9 @@ report-start bytes = go (decLt longestTable (length bytes))
     go : Dec (longestTable < length bytes) → reportText (take (longestTable + 1) bytes) ≡ reportText bytes
     go (yes h) =
         let n : length (take (longestTable + 1) bytes) ≡ longestTable + 1 = length-take-le (longestTable + 1) bytes (omega arith) in
-        report-beyond (take (longestTable + 1) bytes) (omega arith) ∙ sym (report-beyond bytes h)
+        report-beyond (take (longestTable + 1) bytes) (omega arith)
+        ∙ ap (λ (w : Walk). faultLine (faultNumber w) (faultPlace w)) (walked-start bytes h)
+        ∙ sym (report-beyond bytes h)
     go (no h) = ap reportText (take-all (longestTable + 1) bytes (omega arith))
 
 -- The lists of a table without fault fit into rooms for every point.
@@ -118,19 +137,20 @@ module _ (bytes on free : List ℕ) (onRoom : length on ≡ maxPoints) (freeRoom
         go (yes z) = ap (λ (x : TableRead). x .refusal) (e ∙ accepted-read bytes on free z) ∙ sym z
         go (no z) = ap (λ (x : TableRead). x .refusal) (e ∙ refused-read bytes on free z)
 
-    -- A refused table prints its refusal alone.
-    pub read-refused : r .refusal ≢ 0 → refusedLine (r .refusal) ≡ reportText bytes
-    unfolding reportText storedFault
+    -- A refused table prints its refusal alone, with its place.
+    pub read-refused : r .refusal ≢ 0 → faultLine (r .refusal) (r .place) ≡ reportText bytes
     read-refused z =
-        sym (decide-refused (storedTests bytes) (tableText (storedVariables bytes) (storedOn bytes) (storedFree bytes)) refusedLine (r .refusal) z (sym refusal-same))
+        let n : storedFault bytes ≢ 0 = λ q. z (refusal-same ∙ q) in
+        let f : readFault bytes (length on) (length free) ≢ 0 = λ q. n (sym read-same ∙ q) in
+        let place : r .place ≡ storedPlace bytes = ap (λ (x : TableRead). x .place) (e ∙ refused-read bytes on free f) ∙ stored-place bytes (length on) (length free) n in
+        ap (λ (k : ℕ). faultLine k (r .place)) refusal-same ∙ ap (faultLine (storedFault bytes)) place ∙ sym (report-refused bytes n)
 
     module _ (z : r .refusal ≡ 0) where
       pub read-fault : storedFault bytes ≡ 0
       read-fault = sym refusal-same ∙ z
 
       pub read-accepted : tableText (storedVariables bytes) (storedOn bytes) (storedFree bytes) ≡ reportText bytes
-      unfolding reportText storedFault
-      read-accepted = sym (decide-accepted (storedTests bytes) (tableText (storedVariables bytes) (storedOn bytes) (storedFree bytes)) refusedLine read-fault)
+      read-accepted = sym (report-read bytes read-fault)
 
       pub read-value : r ≡ readAccepted bytes
       read-value = e ∙ accepted-read bytes on free (read-same ∙ read-fault)

@@ -6,12 +6,13 @@ use Rattle.gf2.specs.Bits.{bit, halvings, lead}
 use Rattle.gf2.specs.Finite.{holds, all, select}
 use Rattle.gf2.specs.Parity.{oddIn, odd}
 use Rattle.gf2.specs.Basis.{reduce, clear, reduces, irreducible, reducedBasis, isLead, placesAt}
-use Rattle.table.specs.Refusal.{firstFault}
+use Rattle.table.specs.Refusal.{hasPlace, firstFault, firstPlace}
 use Rattle.table.specs.Table.{badCount, outside, notAbove, unordered}
 use Rattle.records.specs.Kinds.{headOf}
 use Rattle.records.specs.Walks.{walkBy}
 use Rattle.stored.specs.Layout.{walked}
 use Rattle.stored.specs.Marks.{recordMarks, markedPoints}
+use Rattle.stored.specs.Stored.{storedPlace}
 use Rattle.space.specs.Closure.{closed, linearSpace, degree}
 use Rattle.space.specs.Completion.{allOn, completed}
 use Rattle.space.specs.Restriction.{equation, equations, number, project, clean, restriction}
@@ -25,7 +26,7 @@ use Rattle.cover.specs.Choice.{primesOf, covered, firstHolding, takenFor, taken
 use Rattle.cover.specs.WrittenForm.{writtenProduct, formOf, writtenForm, formSizeFault}
 use Rattle.text.specs.Decimal.{decimalIn, decimal}
 use Rattle.text.specs.Pieces.{spaced, names}
-use Rattle.lines.specs.Lines.{numberLine, countsLine, numbersLine, variablesText, equationLine, equationLines, factorText, productLine, productLines}
+use Rattle.lines.specs.Lines.{numberLine, faultLine, countsLine, numbersLine, variablesText, equationLine, equationLines, factorText, productLine, productLines}
 use Rattle.table_report.specs.Text.{spaceText, formText, tableText}
 use Rattle.report.specs.Report.{reportText}
 
@@ -41,7 +42,16 @@ examples : List Example
 examples =
     -- An empty input
     example [] (
-    114 ∷ 101 ∷ 102 ∷ 117 ∷ 115 ∷ 101 ∷ 100 ∷ 32 ∷ 56 ∷ 10 ∷ []) ∷
+    114 ∷ 101 ∷ 102 ∷ 117 ∷ 115 ∷ 101 ∷ 100 ∷ 32 ∷ 50 ∷ 49 ∷ 32 ∷ 97 ∷ 116 ∷ 32 ∷ 48 ∷ 10 ∷ []) ∷
+    -- A kind of forms where a point may stand, a cut point, a wrong count, and a byte after the end
+    example (0x4E ∷ 0x01 ∷ 0x50 ∷ []) (
+    114 ∷ 101 ∷ 102 ∷ 117 ∷ 115 ∷ 101 ∷ 100 ∷ 32 ∷ 50 ∷ 48 ∷ 32 ∷ 97 ∷ 116 ∷ 32 ∷ 50 ∷ 10 ∷ []) ∷
+    example (0x4E ∷ 0x01 ∷ 0x4F ∷ 0x00 ∷ []) (
+    114 ∷ 101 ∷ 102 ∷ 117 ∷ 115 ∷ 101 ∷ 100 ∷ 32 ∷ 50 ∷ 49 ∷ 32 ∷ 97 ∷ 116 ∷ 32 ∷ 52 ∷ 10 ∷ []) ∷
+    example (0x4E ∷ 0x01 ∷ 0x45 ∷ 0x01 ∷ 0x00 ∷ []) (
+    114 ∷ 101 ∷ 102 ∷ 117 ∷ 115 ∷ 101 ∷ 100 ∷ 32 ∷ 50 ∷ 53 ∷ 32 ∷ 97 ∷ 116 ∷ 32 ∷ 51 ∷ 10 ∷ []) ∷
+    example (0x4E ∷ 0x01 ∷ 0x45 ∷ 0x00 ∷ 0x00 ∷ 0x45 ∷ []) (
+    114 ∷ 101 ∷ 102 ∷ 117 ∷ 115 ∷ 101 ∷ 100 ∷ 32 ∷ 50 ∷ 54 ∷ 32 ∷ 97 ∷ 116 ∷ 32 ∷ 53 ∷ 10 ∷ []) ∷
     -- P1
     example (0x4E ∷ 0x01 ∷ 0x45 ∷ 0x00 ∷ 0x00 ∷ []) (
     118 ∷ 97 ∷ 114 ∷ 105 ∷ 97 ∷ 98 ∷ 108 ∷ 101 ∷ 115 ∷ 32 ∷ 49 ∷ 10 ∷
@@ -100,5 +110,5 @@ examples =
     []
 
 reports : map (λ e. reportText (e .table)) examples ≡ map (λ e. e .text) examples
-unfolding examples example flatMap bit halvings lead holds all select oddIn odd reduce clear reduces irreducible reducedBasis isLead placesAt firstFault badCount outside notAbove unordered headOf walkBy walked recordMarks markedPoints closed linearSpace degree allOn completed equation equations number project clean restriction keep spans pointsOf bases candidatesOf candidatesFrom candidates everyPoint somePoint cannotGrow isPrime placeFactor canonicalProduct substituteMask substituteFactor substituteProduct primesOf covered firstHolding takenFor takenThrough chosen writtenProduct formOf writtenForm formSizeFault decimalIn decimal spaced names numberLine countsLine numbersLine variablesText equationLine equationLines factorText productLine productLines spaceText formText tableText reportText
+unfolding examples example flatMap bit halvings lead holds all select oddIn odd reduce clear reduces irreducible reducedBasis isLead placesAt hasPlace firstFault firstPlace storedPlace badCount outside notAbove unordered headOf walkBy walked recordMarks markedPoints closed linearSpace degree allOn completed equation equations number project clean restriction keep spans pointsOf bases candidatesOf candidatesFrom candidates everyPoint somePoint cannotGrow isPrime placeFactor canonicalProduct substituteMask substituteFactor substituteProduct primesOf covered firstHolding takenFor takenThrough chosen writtenProduct formOf writtenForm formSizeFault decimalIn decimal spaced names numberLine faultLine countsLine numbersLine variablesText equationLine equationLines factorText productLine productLines spaceText formText tableText reportText
 reports = refl

@@ -27,7 +27,7 @@ fn report_text(bytes: &[u8], room: &mut [u8]) -> usize
     let read = stored::read_table(bytes, &mut on, &mut free);
     let refusal = read.refusal;
     if refusal != 0 {
-        return lines::number_line(&mut *room, 0, b"refused ", refusal as usize);
+        return lines::fault_line(&mut *room, 0, refusal, read.place);
     }
     let on_count = read.on_count;
     let free_count = read.free_count;

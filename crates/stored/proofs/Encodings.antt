@@ -10,7 +10,7 @@ use lib.ListN.{length}
 use Rattle.gf2.specs.Finite.{Mem}
 use Rattle.table.specs.Flags.{maxPoints}
 use Rattle.records.specs.Kinds.{endKind, wordOf, lowByte, highByte, Bytes, encodeEnd}
-use Rattle.records.proofs.KindBytes.{word-of-bytes, low-of-word, high-of-word}
+use Rattle.records.proofs.KindBytes.{word-of-bytes, low-of-word, high-of-word, end-bytes}
 use Rattle.records.specs.declared.Walk.the-variants.{Laid}
 use Rattle.records.specs.Walks.{isFault}
 use Rattle.stored.specs.Layout.{walked, longestTable}
@@ -102,13 +102,7 @@ pub table-bytes : (n : ℕ) (ms : List Mark) → n < 256 → ((m : Mark) → Mem
 unfolding encodeTable
 table-bytes n ms h w few x (inl e) = omega arith
 table-bytes n ms h w few x (inr (inl e)) = omega arith
-table-bytes n ms h w few x (inr (inr k)) = encoded-bytes ms (encodeEnd (length ms)) w last x k
-  where
-    last : Bytes (encodeEnd (length ms))
-    last y (inl e) = omega arith
-    last y (inr (inl e)) = omega arith
-    last y (inr (inr (inl e))) = omega arith
-    last y (inr (inr (inr e))) = absurd e
+table-bytes n ms h w few x (inr (inr k)) = encoded-bytes ms (encodeEnd (length ms)) w (end-bytes (length ms) (omega arith)) x k
 
 -- Bytes that are laid out as a table are the encoding of what is read of them.
 pub stored-same : (bytes : List ℕ) → Bytes bytes → LaidOut bytes → bytes ≡ encodeTable (storedVariables bytes) (marks bytes)

@@ -1,6 +1,6 @@
 -- What it means that the walk finds a table: the records stand one after the other, as `Laying` and `LaidAs` say. The walk finds one
 -- exactly then (`laid`, `walk-laid`), and these say how long the bytes are and what stands at each place. So no input that is too long is a
--- table (`too-long`). Read next: Encodings.
+-- table (`too-long`). Read next: Bounds.
 use mathlib.Core.Path.{_≡_, refl, sym, ap, _∙_, subst}
 use mathlib.Core.Bool.{Bool, true, false, cond}
 use mathlib.Core.List.{List, [], _∷_}
@@ -15,8 +15,8 @@ use Rattle.gf2.proofs.Logic.{clash}
 use Rattle.table.specs.Flags.{maxPoints}
 use Rattle.records.specs.declared.Kind.{Kind}
 use Rattle.records.specs.declared.Kind.the-variants.{Variables, Product, Factor, End, On, Free}
-use Rattle.records.specs.Kinds.{variablesKind, endKind, onKind, bodyLength, headOf, wordOf, wordRecordLength}
-use Rattle.records.proofs.KindBytes.{kindByte, head-byte}
+use Rattle.records.specs.Kinds.{kindByte, variablesKind, endKind, onKind, bodyLength, headOf, wordOf, wordRecordLength}
+use Rattle.records.proofs.KindBytes.{head-byte}
 use Rattle.records.specs.declared.Walk.{Walk}
 use Rattle.records.specs.declared.Walk.the-variants.{Laid, WrongKind, Missing, WrongVariables, WrongFactor, NotCanonical, WrongCount, After, TooMany}
 use Rattle.records.specs.declared.Step.the-variants.{Stop}

@@ -10,13 +10,13 @@ use lib.Dec.{ltb}
 use lib.ListN.{length}
 use borrow.Author.Tests.{ltb-false}
 use Rattle.gf2.proofs.Logic.{or-none}
-use Rattle.table.specs.Refusal.{Test, test, firstFault, roomFault}
+use Rattle.table.specs.Refusal.{Test, test, firstFault, firstPlace, roomFault}
 use Rattle.table.specs.Decision.{front}
-use Rattle.table.proofs.Refusal.{fault-append, fault-before}
+use Rattle.table.proofs.Refusal.{fault-append, fault-before, place-append, place-before}
 use Rattle.table.proofs.Decide.{decide-accepted, decide-refused}
 use Rattle.stored.specs.Marks.{storedOn, storedFree}
-use Rattle.stored.specs.Stored.{storedTests, storedFault}
-use Rattle.stored.specs.Reading.{readTests, readFault, readRefused, readAccepted, readAnswer, readOnAfter, readFreeAfter}
+use Rattle.stored.specs.Stored.{storedTests, storedFault, storedPlace}
+use Rattle.stored.specs.Reading.{readTests, readFault, readPlace, readRefused, readAccepted, readAnswer, readOnAfter, readFreeAfter}
 use Rattle.stored.proofs.Accepting.{stored-numbered}
 
 -- A list is longer than its room.
@@ -24,9 +24,23 @@ abbrev pub short : List ℕ → ℕ → ℕ → Bool
 short bytes on free = ltb on (length (storedOn bytes)) || ltb free (length (storedFree bytes))
 
 module _ (bytes : List ℕ) (on free : ℕ) where
+  -- The fault of the stored table comes first, with its place.
   pub stored-first : storedFault bytes ≢ 0 → readFault bytes on free ≡ storedFault bytes
   unfolding readFault storedFault
   stored-first nz = fault-before (storedTests bytes) _ nz
+
+  pub stored-place : storedFault bytes ≢ 0 → readPlace bytes on free ≡ storedPlace bytes
+  unfolding readPlace storedFault storedPlace
+  stored-place nz = place-before (storedTests bytes) _ nz
+
+  -- Any other refusal has the place 0.
+  pub then-place : storedFault bytes ≡ 0 → readPlace bytes on free ≡ 0
+  unfolding readPlace storedFault firstPlace
+  then-place e = place-append (storedTests bytes) (test roomFault (short bytes on free) ∷ []) (stored-numbered bytes) e ∙ zero-either (short bytes on free)
+    where
+      zero-either : (t : Bool) → _≡_ {A = ℕ} (cond t 0 0) 0
+      zero-either true = refl
+      zero-either false = refl
 
   pub then-room : storedFault bytes ≡ 0 → readFault bytes on free ≡ cond (short bytes on free) roomFault 0
   unfolding readFault storedFault firstFault
@@ -55,9 +69,12 @@ module _ (bytes on free : List ℕ) where
   abbrev fault : ℕ
   fault = readFault bytes (length on) (length free)
 
-  pub refused-read : fault ≢ 0 → readAnswer bytes (length on) (length free) ≡ readRefused fault
+  abbrev place : ℕ
+  place = readPlace bytes (length on) (length free)
+
+  pub refused-read : fault ≢ 0 → readAnswer bytes (length on) (length free) ≡ readRefused place fault
   unfolding readAnswer readFault
-  refused-read nz = decide-refused tests (readAccepted bytes) readRefused fault nz refl
+  refused-read nz = decide-refused tests (readAccepted bytes) (readRefused place) fault nz refl
 
   pub refused-on : fault ≢ 0 → readOnAfter bytes on free ≡ on
   unfolding readOnAfter readFault
@@ -69,7 +86,7 @@ module _ (bytes on free : List ℕ) where
 
   pub accepted-read : fault ≡ 0 → readAnswer bytes (length on) (length free) ≡ readAccepted bytes
   unfolding readAnswer readFault
-  accepted-read e = decide-accepted tests (readAccepted bytes) readRefused e
+  accepted-read e = decide-accepted tests (readAccepted bytes) (readRefused place) e
 
   pub accepted-on : fault ≡ 0 → readOnAfter bytes on free ≡ front (storedOn bytes) on
   unfolding readOnAfter readFault

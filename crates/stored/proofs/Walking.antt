@@ -1,4 +1,4 @@
--- Laws of specs.Layout: what a whole record says of the bytes that are left. Read next: Laying.
+-- Laws of specs.Layout: what a whole record says of the bytes that are left. Read next: Ruling.
 use mathlib.Core.Path.{_≡_, refl, ap, _∙_}
 use mathlib.Core.Bool.{Bool, true, false, cond}
 use mathlib.Core.List.{List, [], _∷_}

@@ -1,5 +1,5 @@
 -- How the bytes of a stored table are laid out: a walk from the left that reports the first fault that it meets, with its byte place
--- (document 01, "The written form"; the faults and their places are those of document 02, No. 3). Read next: Marks.
+-- (document 01, "The written form"; the faults and their places are those of document 02, No. 3). Read next: Faults.
 use mathlib.Core.Bool.{cond}
 use mathlib.Core.List.{List, [], _∷_}
 use Prim.Native.Nat.{ℕ, _+_, _*_}

@@ -5,17 +5,19 @@ ghost use mathlib.Core.Bool.{Bool·beq};
 ghost use Prim.Native.Nat.{_+_, _≤_, _<_};
 ghost use lib.ListN.{length, getD, drop};
 ghost use Rattle.gf2.specs.Limits.{maxVariables};
+ghost use Rattle.table.specs.Refusal.{firstFault, faultOf};
 ghost use Rattle.table.specs.Decision.{front};
 ghost use Rattle.table.specs.Table.{outside, unordered};
 ghost use Rattle.stored.specs.Marks.{noMark, marks, markedPoints, storedVariables, storedPoints};
-ghost use Rattle.stored.specs.Reading.{readFault, readAnswer, readOnAfter, readFreeAfter};
-ghost use Rattle.stored.specs.Stored.{LaidOut, storedFault};
+ghost use Rattle.stored.specs.Reading.{readTests, readAnswer, readOnAfter, readFreeAfter};
+ghost use Rattle.stored.specs.Stored.{LaidOut, pointTests, storedTests};
 ghost use Rattle.stored.specs.Layout.{firstTableStep, tableStep, walkTableFrom, walked};
 use records::Kind;
 use records::RecordHead;
 use records::Step;
 use records::WORD_RECORD_LENGTH;
 use records::Walk;
+use table::Fault;
 
 // Where the records of points begin, as `firstPoint` in specs/.
 pub const FIRST_POINT: usize = 2;
@@ -25,10 +27,11 @@ pub const LONGEST_TABLE: usize = FIRST_POINT
     + WORD_RECORD_LENGTH * table::MAX_POINTS
     + WORD_RECORD_LENGTH;
 
-// What reading gives: the refusal or 0, n, and how many on and free points there are.
+// What reading gives: the refusal or 0, its byte place, n, and how many on and free points there are.
 #[repr(C)]
 pub struct TableRead {
     pub refusal: u8,
+    pub place: usize,
     pub variables: usize,
     pub on_count: usize,
     pub free_count: usize,
@@ -161,14 +164,11 @@ fn points_unordered(bytes: &[u8]) -> bool
     false
 }
 
-// The refusal of a stored table, or 0: the layout over the whole length, then n, then all points, then their order as one list.
-pub fn stored_fault(bytes: &[u8]) -> u8
-    ensures { λ r. ⌜ r ≡ storedFault (now (bytes .entry)) ⌝ }
+// The refusal of bytes that are laid out, or 0: n, then all points, then their order as one list.
+fn points_fault(bytes: &[u8]) -> u8
+    requires { ⌜ LaidOut (now bytes) ⌝ }
+    ensures { λ r. ⌜ r ≡ firstFault (pointTests (now (bytes .entry))) ⌝ }
 {
-    let fault = records::layout_fault(walk_table(bytes));
-    if fault != 0 {
-        return fault;
-    }
     let n = variables(bytes);
     if table::bad_count(n) {
         return table::VARIABLES_FAULT;
@@ -180,6 +180,17 @@ pub fn stored_fault(bytes: &[u8]) -> u8
         return table::ORDER_FAULT;
     }
     0
+}
+
+// What is wrong with a stored table: the layout over the whole length, with its place, then n and the points.
+pub fn stored_fault(bytes: &[u8]) -> Fault
+    ensures { λ r. ⌜ r ≡ faultOf (storedTests (now (bytes .entry))) ⌝ }
+{
+    let fault = records::layout_fault(walk_table(bytes));
+    if fault.number != 0 {
+        return fault;
+    }
+    table::fault_at(points_fault(bytes), 0)
 }
 
 // A record, by its number, is of an on point if those are asked for, or else of a free point.
@@ -229,21 +240,21 @@ fn write_points(bytes: &[u8], on: bool, room: &mut [u16]) -> usize
     at
 }
 
-// The refusal of reading into rooms of these lengths, or 0.
-fn read_fault(bytes: &[u8], on: usize, free: usize) -> u8
-    ensures { λ r. ⌜ r ≡ readFault (now (bytes .entry)) on free ⌝ }
+// What is wrong with reading into rooms of these lengths.
+fn read_fault(bytes: &[u8], on: usize, free: usize) -> Fault
+    ensures { λ r. ⌜ r ≡ faultOf (readTests (now (bytes .entry)) on free) ⌝ }
 {
     let fault = stored_fault(bytes);
-    if fault != 0 {
+    if fault.number != 0 {
         return fault;
     }
     if on < count_points(bytes, true) {
-        return table::ROOM_FAULT;
+        return table::fault_at(table::ROOM_FAULT, 0);
     }
     if free < count_points(bytes, false) {
-        return table::ROOM_FAULT;
+        return table::fault_at(table::ROOM_FAULT, 0);
     }
-    0
+    fault
 }
 
 // The stored table read into two rooms, one for the on points and one for the free points. A refusal writes to neither.
@@ -253,9 +264,10 @@ pub fn read_table(bytes: &[u8], on: &mut [u16], free: &mut [u16]) -> TableRead
     ensures { λ r. ⌜ now (free .exit) ≡ readFreeAfter (now (bytes .entry)) (now (on .entry)) (now (free .entry)) ⌝ }
 {
     let fault = read_fault(bytes, on.len(), free.len());
-    if fault != 0 {
+    if fault.number != 0 {
         return TableRead {
-            refusal: fault,
+            refusal: fault.number,
+            place: fault.place,
             variables: 0,
             on_count: 0,
             free_count: 0,
@@ -265,6 +277,7 @@ pub fn read_table(bytes: &[u8], on: &mut [u16], free: &mut [u16]) -> TableRead
     let free_count = write_points(bytes, false, &mut *free);
     TableRead {
         refusal: 0,
+        place: 0,
         variables: variables(bytes),
         on_count,
         free_count,

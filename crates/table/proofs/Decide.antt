@@ -6,10 +6,12 @@ use mathlib.Core.List.{List, [], _∷_, _++_}
 use Prim.Native.Nat.{ℕ, _≤_, _<_}
 use native.Mathlib.Decide.{ℕ-discrete}
 use native.Mathlib.Omega.{arith}
+use lib.Dec.{ltb}
 use lib.ListN.{length}
 use borrow.Author.Tests.{eq-eqb, ne-eqb, lt-ltb, le-ltb}
-use Rattle.table.specs.Refusal.{Test, test, firstFault, Numbered, Exact, roomFault}
-use Rattle.table.proofs.Refusal.{fault-first, no-fault, fault-append, fault-before}
+use Rattle.table.specs.Refusal.{Test, test, firstFault, firstPlace, faultAt, Numbered, Exact, roomFault}
+use Rattle.table.specs.declared.Fault.{Fault}
+use Rattle.table.proofs.Refusal.{fault-first, no-fault, fault-append, fault-before, place-append, place-before}
 use Rattle.table.specs.Decision.{decide, front, roomAfter, roomTest}
 
 -- ---- a decision by the number of its first fault
@@ -86,6 +88,12 @@ module _ {A B : Type 0} (ts : List Test) (answer room : List B) (accepted : A) (
       let f = table-passed ts (roomTest answer room) h e ∙ room-enough answer room l in
       (sym (decide-accepted tests accepted refused f), sym (decide-accepted tests (front answer room) (λ r. room) f))
 
+-- A test without a place gives none.
+unplaced : (number : ℕ) (applies : Bool) → firstPlace (test number applies ∷ []) ≡ 0
+unfolding firstPlace
+unplaced number true = refl
+unplaced number false = refl
+
 -- The three ways out of such a call, said of the value x that it returns and of its room after it: the fault of the tests before the room's, a room
 -- that is too short, and the answer at the front of the room.
 pub record Ways {A B : Type 0} (fault : ℕ) (answer room : List B) (accepted : A) (refused : ℕ → A) (returned : A) (left : List B) : Type 0 where
@@ -100,3 +108,30 @@ ways ts answer room accepted refused h = record {
   short = λ e l x q. let p = call-short ts answer room accepted refused h e l in (q ∙ p .0, p .1);
   whole = λ e l x after q r. let p = call-accepted ts answer room accepted refused h e l in (q ∙ p .0, r ∙ p .1);
 }
+
+-- The same of a call that reads bytes: its refusal has the place of the tests before the room's, and a room that is too short the place 0.
+pub record PlacedWays {A B : Type 0} (fault place : ℕ) (answer room : List B) (accepted : A) (refused : ℕ → ℕ → A) (returned : A) (left : List B) : Type 0 where
+  pub faulty : (f : Fault) → f ≡ faultAt fault place → f .number ≢ 0 → (x : A) → x ≡ refused (f .place) (f .number) → (x ≡ returned) × (room ≡ left)
+  pub short : fault ≡ 0 → length room < length answer → (x : A) → x ≡ refused 0 roomFault → (x ≡ returned) × (room ≡ left)
+  pub whole : fault ≡ 0 → length answer ≤ length room → (x : A) (after : List B) → x ≡ accepted → after ≡ front answer room → (x ≡ returned) × (after ≡ left)
+
+pub placed-ways : {A B : Type 0} (ts : List Test) (answer room : List B) (accepted : A) (refused : ℕ → ℕ → A) → Numbered ts
+    → PlacedWays (firstFault ts) (firstPlace ts) answer room accepted refused
+    (decide (ts ++ roomTest answer room) accepted (refused (firstPlace (ts ++ roomTest answer room))))
+    (roomAfter (ts ++ roomTest answer room) answer room)
+placed-ways ts answer room accepted refused h = record {
+  faulty = λ f e n x q.
+      let number : f .number ≡ firstFault ts = ap (λ (y : Fault). y .number) e in
+      let place : f .place ≡ firstPlace (ts ++ roomTest answer room) = ap (λ (y : Fault). y .place) e ∙ sym (place-before ts (roomTest answer room) (λ z. n (number ∙ z))) in
+      by .faulty (f .number) number n x (q ∙ ap (λ (p : ℕ). refused p (f .number)) place);
+  short = λ e l x q. by .short e l x (q ∙ ap (λ (p : ℕ). refused p roomFault) (sym (room-place e)));
+  whole = by .whole;
+}
+  where
+    by : Ways (firstFault ts) answer room accepted (refused (firstPlace (ts ++ roomTest answer room)))
+        (decide (ts ++ roomTest answer room) accepted (refused (firstPlace (ts ++ roomTest answer room))))
+        (roomAfter (ts ++ roomTest answer room) answer room)
+    by = ways ts answer room accepted (refused (firstPlace (ts ++ roomTest answer room))) h
+
+    room-place : firstFault ts ≡ 0 → firstPlace (ts ++ roomTest answer room) ≡ 0
+    room-place e = place-append ts (roomTest answer room) h e ∙ unplaced roomFault (ltb (length room) (length answer))

@@ -1,13 +1,16 @@
--- Laws of specs.Refusal: a number is given exactly when its test applies and none before it does. They hold of any list of tests. Read next: Decide.
+-- Laws of specs.Refusal: a number is given exactly when its test applies and none before it does, with the place of that test. They hold of any list
+-- of tests. Read next: Decide.
 use mathlib.Core.Path.{_≡_, refl, sym, ap, _∙_}
-use mathlib.Core.Bool.{Bool, true, false, cond}
+use mathlib.Core.Bool.{Bool, true, false, cond, _||_}
 use mathlib.Core.Logic.{_≢_, inl, inr, _↔_}
 use mathlib.Core.List.{List, [], _∷_, _++_, map, append-nil}
 use Prim.Native.Nat.{ℕ}
-use Rattle.gf2.specs.Finite.{holds}
+use lib.Dec.{eqb}
+use borrow.Author.Tests.{eqb-true}
+use Rattle.gf2.specs.Finite.{Mem, holds}
 use Rattle.gf2.proofs.Logic.{clash}
 use Rattle.gf2.proofs.Finite.{mem-map, holds-mem}
-use Rattle.table.specs.Refusal.{Test, firstFault, Numbered, NoneApplies, First}
+use Rattle.table.specs.Refusal.{Test, hasPlace, firstFault, firstPlace, Numbered, NoneApplies, First}
 
 -- ---- the test that is given
 
@@ -82,3 +85,52 @@ fault-before (t ∷ ts) us nz = go (t .applies) nz (fault-before ts us)
         → cond b (t .number) (firstFault (ts ++ us)) ≡ cond b (t .number) (firstFault ts)
     go true nz next = refl
     go false nz next = next nz
+
+-- ---- the place that goes with the number
+
+-- Tests that do not apply are passed.
+place-passed : (us ts : List Test) → NoneApplies us → firstPlace (us ++ ts) ≡ firstPlace ts
+unfolding firstPlace
+place-passed [] ts h = refl
+place-passed (u ∷ us) ts h = rw (h u (inl refl)) (place-passed us ts (λ v m. h v (inr m)))
+
+-- Without a number the place is 0.
+pub place-none : (ts : List Test) → Numbered ts → firstFault ts ≡ 0 → firstPlace ts ≡ 0
+unfolding firstPlace
+place-none ts h e = ap firstPlace (sym (append-nil ts)) ∙ place-passed ts [] (none ts h e)
+
+-- The place is that of the test whose number is given.
+pub place-first : (ts : List Test) (r : ℕ) (f : First ts r) → firstPlace ts ≡ f .found .place
+unfolding firstPlace
+place-first ts r f = ap firstPlace (f .order) ∙ place-passed (f .before) (f .found ∷ f .after) (f .passed) ∙ rw (f .applies)
+
+-- Further tests, as for the number.
+pub place-append : (ts us : List Test) → Numbered ts → firstFault ts ≡ 0 → firstPlace (ts ++ us) ≡ firstPlace us
+place-append ts us h e = place-passed ts us (none ts h e)
+
+pub place-before : (ts us : List Test) → firstFault ts ≢ 0 → firstPlace (ts ++ us) ≡ firstPlace ts
+unfolding firstFault firstPlace
+place-before [] us nz = absurd (nz refl)
+place-before (t ∷ ts) us nz = go (t .applies) nz (place-before ts us)
+  where
+    go : (b : Bool) → cond b (t .number) (firstFault ts) ≢ 0 → (firstFault ts ≢ 0 → firstPlace (ts ++ us) ≡ firstPlace ts)
+        → cond b (t .place) (firstPlace (ts ++ us)) ≡ cond b (t .place) (firstPlace ts)
+    go true nz next = refl
+    go false nz next = next nz
+
+-- A test gives a number that has a place, or the place 0.
+abbrev pub soundPlace : Test → Bool
+soundPlace t = hasPlace (t .number) || eqb (t .place) 0
+
+-- So where all tests do, every other number is given with the place 0.
+pub place-zero : (ts : List Test) → ((t : Test) → Mem t ts → soundPlace t ≡ true) → hasPlace (firstFault ts) ≡ false → firstPlace ts ≡ 0
+unfolding firstFault firstPlace
+place-zero [] h e = refl
+place-zero (t ∷ ts) h e = go (t .applies) e (place-zero ts (λ u m. h u (inr m)))
+  where
+    zero-place : hasPlace (t .number) ≡ false → t .place ≡ 0
+    zero-place z = eqb-true (t .place) 0 (rw z at (h t (inl refl)))
+
+    go : (b : Bool) → hasPlace (cond b (t .number) (firstFault ts)) ≡ false → (hasPlace (firstFault ts) ≡ false → firstPlace ts ≡ 0) → cond b (t .place) (firstPlace ts) ≡ 0
+    go true e next = zero-place e
+    go false e next = next e

@@ -5,6 +5,7 @@ ghost use mathlib.Core.Path.{_≡_};
 ghost use mathlib.Core.Bool.{false};
 ghost use Prim.Native.Nat.{_≤_, _^_};
 ghost use Rattle.gf2.specs.Limits.{maxVariables};
+ghost use Rattle.table.specs.Refusal.{hasPlace, faultAt};
 ghost use Rattle.table.specs.Table.{badCount, outside, unordered, shared, tableFault};
 ghost use Rattle.table.specs.Flags.{marked, flagsOf};
 
@@ -23,13 +24,48 @@ pub const AFFINE_FAULT: u8 = 6;
 
 pub const ROOM_FAULT: u8 = 7;
 
-pub const LAYOUT_FAULT: u8 = 8;
-
 pub const PLACE_FAULT: u8 = 9;
 
 pub const COUNTS_FAULT: u8 = 10;
 
 pub const FIRST_POINT_FAULT: u8 = 11;
+
+pub const WRONG_KIND_FAULT: u8 = 20;
+
+pub const BYTES_MISSING_FAULT: u8 = 21;
+
+pub const WRONG_VARIABLES_FAULT: u8 = 22;
+
+pub const WRONG_FACTOR_FAULT: u8 = 23;
+
+pub const NOT_CANONICAL_FAULT: u8 = 24;
+
+pub const WRONG_COUNT_FAULT: u8 = 25;
+
+pub const BYTES_AFTER_FAULT: u8 = 26;
+
+pub const TOO_MANY_PRODUCTS_FAULT: u8 = 27;
+
+// What is wrong with an input: the refusal number, 0 if none, and the byte place that goes with it (document 02, No. 3). Every call that reads bytes
+// hands it on as it is.
+pub struct Fault {
+    pub number: u8,
+    pub place: usize,
+}
+
+// A fault of this number at this place.
+pub fn fault_at(number: u8, place: usize) -> Fault
+    ensures { λ r. ⌜ r ≡ faultAt number place ⌝ }
+{
+    Fault { number, place }
+}
+
+// The number of a refusal has a byte place.
+pub fn has_place(number: u8) -> bool
+    ensures { λ r. ⌜ r ≡ hasPlace number ⌝ }
+{
+    number >= WRONG_KIND_FAULT && number <= TOO_MANY_PRODUCTS_FAULT
+}
 
 // The number of points of the largest number of variables, as `maxPoints` in specs/.
 pub const MAX_POINTS: usize = 1 << MAX_VARIABLES;

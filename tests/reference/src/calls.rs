@@ -1,14 +1,15 @@
 //! The public calls: each takes lent rooms and returns its numbers, the refusal
-//! first. A refused call returns its number with all others 0 and leaves lent
-//! memory as it was; so is unused room after an accepted answer.
-//! Follows document 01, section "Refusal numbers", and document 02, No. 1.
+//! first. A refused call returns its number, with its place if bytes are at fault,
+//! and all others 0; it leaves lent memory as it was, and so is unused room after an
+//! accepted answer. Follows document 01, section "Refusal numbers", and document 02,
+//! No. 1 and No. 3.
 
 use crate::compare;
 use crate::cover;
 use crate::form;
 use crate::numbers::*;
 use crate::primes;
-use crate::refusal;
+use crate::refusal::{self, Refused};
 use crate::report;
 use crate::space;
 use crate::table;
@@ -30,7 +31,7 @@ fn try_read_table(
     bytes: &[u8],
     on_room: &mut [u16],
     free_room: &mut [u16],
-) -> Result<TableNumbers, u8> {
+) -> Result<TableNumbers, Refused> {
     let (variables, on, free) = table::read_stored(bytes)?;
     check_room(&on, on_room)?;
     check_room(&free, free_room)?;
@@ -38,17 +39,22 @@ fn try_read_table(
     put(&free, free_room);
     Ok(TableNumbers {
         refusal: refusal::NONE,
+        place: 0,
         variables,
         on_count: on.len(),
         free_count: free.len(),
     })
 }
 
-/// Reads a stored table into two lists. Refusals 8, 1, 2, 3, 7.
+/// Reads a stored table into two lists. Refusals 20, 21, 25 and 26 with a place, then
+/// 1, 2, 3, 7.
 pub fn read_table(bytes: &[u8], on_room: &mut [u16], free_room: &mut [u16]) -> TableNumbers {
-    try_read_table(bytes, on_room, free_room).unwrap_or_else(|refusal| TableNumbers {
-        refusal,
-        ..TableNumbers::default()
+    try_read_table(bytes, on_room, free_room).unwrap_or_else(|Refused { refusal, place }| {
+        TableNumbers {
+            refusal,
+            place,
+            ..TableNumbers::default()
+        }
     })
 }
 
@@ -175,18 +181,20 @@ pub fn list_primes(
     }
 }
 
-/// Compares two stored tables from a first point on. Refusals 8, 1, 2, 3 of the
-/// left table, the same of the right one, 10, 11.
+/// Compares two stored tables from a first point on. Refusals 20, 21, 25 and 26 with
+/// their places in the left table, 1, 2, 3 of it, the same of the right one, 10, 11.
 pub fn compare(left: &[u8], right: &[u8], first: usize, room: &mut [u8]) -> ComparisonNumbers {
     match compare::compare(left, right, first, room) {
         Ok(comparison) => ComparisonNumbers {
             refusal: refusal::NONE,
+            place: 0,
             records: comparison.records,
             next_point: comparison.next_point,
             total: comparison.total,
         },
-        Err(refusal) => ComparisonNumbers {
+        Err(Refused { refusal, place }) => ComparisonNumbers {
             refusal,
+            place,
             ..ComparisonNumbers::default()
         },
     }
@@ -212,41 +220,45 @@ pub fn write_form(n: usize, on: &[u16], free: &[u16], room: &mut [u8]) -> FormNu
     })
 }
 
-fn try_form_points(bytes: &[u8], room: &mut [u16]) -> Result<FormPointsNumbers, u8> {
+fn try_form_points(bytes: &[u8], room: &mut [u16]) -> Result<FormPointsNumbers, Refused> {
     let form = form::read_form(bytes)?;
     let points = form::points(&form);
     check_room(&points, room)?;
     put(&points, room);
     Ok(FormPointsNumbers {
         refusal: refusal::NONE,
+        place: 0,
         variables: form.variables,
         point_count: points.len(),
     })
 }
 
-/// Reads a form into its points, rising. Refusals 8, 7.
+/// Reads a form into its points, rising. Refusals 20 to 27 with a place, then 7.
 pub fn form_points(bytes: &[u8], room: &mut [u16]) -> FormPointsNumbers {
-    try_form_points(bytes, room).unwrap_or_else(|refusal| FormPointsNumbers {
+    try_form_points(bytes, room).unwrap_or_else(|Refused { refusal, place }| FormPointsNumbers {
         refusal,
+        place,
         ..FormPointsNumbers::default()
     })
 }
 
-fn try_form_rewrite(bytes: &[u8], room: &mut [u8]) -> Result<RewriteNumbers, u8> {
+fn try_form_rewrite(bytes: &[u8], room: &mut [u8]) -> Result<RewriteNumbers, Refused> {
     let form = form::read_form(bytes)?;
     let written = form::encode(&form);
     check_room(&written, room)?;
     put(&written, room);
     Ok(RewriteNumbers {
         refusal: refusal::NONE,
+        place: 0,
         length: written.len(),
     })
 }
 
-/// Reads a form and writes what was read. Refusals 8, 7.
+/// Reads a form and writes what was read. Refusals 20 to 27 with a place, then 7.
 pub fn form_rewrite(bytes: &[u8], room: &mut [u8]) -> RewriteNumbers {
-    try_form_rewrite(bytes, room).unwrap_or_else(|refusal| RewriteNumbers {
+    try_form_rewrite(bytes, room).unwrap_or_else(|Refused { refusal, place }| RewriteNumbers {
         refusal,
+        place,
         ..RewriteNumbers::default()
     })
 }

@@ -1,7 +1,7 @@
 //! Two stored tables side by side: each point where their marks differ, with both
-//! marks, and how many there are. Follows document 02, No. 1.
+//! marks, and how many there are. Follows document 02, No. 1 and No. 3.
 
-use crate::refusal;
+use crate::refusal::{self, Refused};
 use crate::table::{self, Table};
 use crate::walk;
 
@@ -60,19 +60,24 @@ pub fn record(difference: &Difference) -> [u8; DIFFERENCE_LENGTH] {
     [low, high, difference.left, difference.right]
 }
 
-/// The comparison call. Refusals 8, 1, 2 and 3 of the left table, then those of
-/// the right one, then 10 and 11. The differences from the first point on go to
-/// the front of the room, as far as they fit; the next point is that of the first
-/// one left over, or 2^n. The total is that of the whole tables.
-pub fn compare(left: &[u8], right: &[u8], first: usize, room: &mut [u8]) -> Result<Comparison, u8> {
+/// The comparison call. All refusals of the left table, then those of the right one,
+/// then 10 and 11; a place is one in the table that is refused. The differences from
+/// the first point on go to the front of the room, as far as they fit; the next point
+/// is that of the first one left over, or 2^n. The total is that of the whole tables.
+pub fn compare(
+    left: &[u8],
+    right: &[u8],
+    first: usize,
+    room: &mut [u8],
+) -> Result<Comparison, Refused> {
     let left = table::read_stored(left)?;
     let right = table::read_stored(right)?;
     if left.0 != right.0 {
-        return Err(refusal::COUNTS_DIFFER);
+        return Err(refusal::COUNTS_DIFFER.into());
     }
     let size = 1 << left.0;
     if first > size {
-        return Err(refusal::FIRST_POINT_TOO_LARGE);
+        return Err(refusal::FIRST_POINT_TOO_LARGE.into());
     }
     let all = differences(&left, &right);
     let mut ahead = all.iter().filter(|found| usize::from(found.point) >= first);

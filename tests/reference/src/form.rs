@@ -1,11 +1,11 @@
 //! Forms: the reader, the writer of what was read, and the points of a form.
-//! Follows document 01, section "The written form". The form written for a
-//! table is made in module `cover` and can be called from here too.
+//! Follows document 01, section "The written form", and document 02, No. 3. The form
+//! written for a table is made in module `cover` and can be called from here too.
 
 pub use crate::cover::write_form;
-use crate::refusal;
+use crate::refusal::{self, Refused};
 use crate::table;
-use crate::walk::{self, Fault, Faulty};
+use crate::walk;
 
 /// Most products of a form.
 pub const MOST_PRODUCTS: usize = 64;
@@ -80,26 +80,27 @@ fn factor_of(variables: usize, body: &[u8]) -> Option<Factor> {
 }
 
 /// Reads the factor whose kind byte stands at `place` into the last product.
-fn walk_factor(bytes: &[u8], place: usize, form: &mut Form) -> Result<(), Faulty> {
+fn walk_factor(bytes: &[u8], place: usize, form: &mut Form) -> Result<(), Refused> {
     let Some(product) = form.products.last_mut() else {
-        return Err((Fault::Kind, place));
+        return Err(Refused::at(refusal::WRONG_KIND, place));
     };
     let body = walk::body_at(bytes, place + 1, 3)?;
     let Some(factor) = factor_of(form.variables, body) else {
-        return Err((Fault::Factor, place + 1));
+        return Err(Refused::at(refusal::WRONG_FACTOR, place + 1));
     };
     product.push(factor);
     if !is_canonical(product) {
-        return Err((Fault::NotCanonical, place + 1));
+        return Err(Refused::at(refusal::NOT_CANONICAL, place + 1));
     }
     Ok(())
 }
 
-/// Walks a form from the left: the form, or the first fault and its place.
-pub fn walk_form(bytes: &[u8]) -> Result<Form, Faulty> {
+/// Reads a form by a walk from the left: the form, or the first fault and its place,
+/// refusals 20 to 27.
+pub fn read_form(bytes: &[u8]) -> Result<Form, Refused> {
     let variables = usize::from(walk::first_record(bytes)?);
     if !table::is_variable_count(variables) {
-        return Err((Fault::Variables, 1));
+        return Err(Refused::at(refusal::WRONG_VARIABLES, 1));
     }
     let products = Vec::new();
     let mut form = Form {
@@ -111,7 +112,7 @@ pub fn walk_form(bytes: &[u8]) -> Result<Form, Faulty> {
         match walk::kind_at(bytes, place)? {
             walk::KIND_PRODUCT => {
                 if form.products.len() == MOST_PRODUCTS {
-                    return Err((Fault::Products, place));
+                    return Err(Refused::at(refusal::TOO_MANY_PRODUCTS, place));
                 }
                 form.products.push(Vec::new());
                 place += 1;
@@ -124,14 +125,9 @@ pub fn walk_form(bytes: &[u8]) -> Result<Form, Faulty> {
                 walk::last_record(bytes, place, form.products.len())?;
                 return Ok(form);
             }
-            _ => return Err((Fault::Kind, place)),
+            _ => return Err(Refused::at(refusal::WRONG_KIND, place)),
         }
     }
-}
-
-/// Reads a form: every fault of its bytes is refusal 8.
-pub fn read_form(bytes: &[u8]) -> Result<Form, u8> {
-    walk_form(bytes).map_err(|_| refusal::BAD_BYTES)
 }
 
 /// The bytes of a form.

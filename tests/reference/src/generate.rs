@@ -177,13 +177,34 @@ pub fn random_form(generator: &mut Generator, n: usize, products: usize) -> Form
     }
 }
 
+/// A byte that means something at many places, or any other.
+pub fn telling_byte(generator: &mut Generator) -> u8 {
+    let kinds = [
+        walk::KIND_VARIABLES,
+        walk::KIND_PRODUCT,
+        walk::KIND_FACTOR,
+        walk::KIND_END,
+        walk::KIND_ON,
+        walk::KIND_FREE,
+    ];
+    match generator.below(4) {
+        0 => kinds[generator.below(kinds.len())],
+        1 => generator.below(MOST_VARIABLES + 2) as u8,
+        2 => 1 << generator.below(8),
+        _ => generator.below(256) as u8,
+    }
+}
+
+/// The bytes with another one at a place.
+pub fn with_byte(bytes: &[u8], place: usize, byte: u8) -> Vec<u8> {
+    let mut changed = bytes.to_vec();
+    changed[place] = byte;
+    changed
+}
+
 /// The bytes with each byte in turn changed by XOR with a number that isn't 0.
 pub fn changed_bytes(bytes: &[u8], change: u8) -> impl Iterator<Item = Vec<u8>> + '_ {
-    (0..bytes.len()).map(move |place| {
-        let mut damaged = bytes.to_vec();
-        damaged[place] ^= change;
-        damaged
-    })
+    (0..bytes.len()).map(move |place| with_byte(bytes, place, bytes[place] ^ change))
 }
 
 /// The bytes with each byte in turn changed to each other value.

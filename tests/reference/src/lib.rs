@@ -5,6 +5,7 @@
 pub mod calls;
 pub mod compare;
 pub mod cover;
+pub mod faults;
 pub mod form;
 pub mod generate;
 pub mod numbers;

@@ -1,6 +1,7 @@
 //! The numbers that each public call returns, the refusal first.
-//! Follows document 01, section "Refusal numbers": a refused call returns its
-//! number with all others 0, which is each type's default with a refusal set.
+//! Follows document 01, section "Refusal numbers", and document 02, No. 3: a refused
+//! call returns its number with all others 0, which is each type's default with a
+//! refusal set; a call that reads bytes also returns the place.
 
 use crate::table::MOST_VARIABLES;
 
@@ -15,6 +16,7 @@ pub struct ShortList {
 #[derive(Clone, Copy, Debug, Default, PartialEq, Eq)]
 pub struct TableNumbers {
     pub refusal: u8,
+    pub place: usize,
     pub variables: usize,
     pub on_count: usize,
     pub free_count: usize,
@@ -74,6 +76,7 @@ pub struct ListingNumbers {
 #[derive(Clone, Copy, Debug, Default, PartialEq, Eq)]
 pub struct ComparisonNumbers {
     pub refusal: u8,
+    pub place: usize,
     pub records: usize,
     pub next_point: usize,
     pub total: usize,
@@ -91,6 +94,7 @@ pub struct FormNumbers {
 #[derive(Clone, Copy, Debug, Default, PartialEq, Eq)]
 pub struct FormPointsNumbers {
     pub refusal: u8,
+    pub place: usize,
     pub variables: usize,
     pub point_count: usize,
 }
@@ -99,6 +103,7 @@ pub struct FormPointsNumbers {
 #[derive(Clone, Copy, Debug, Default, PartialEq, Eq)]
 pub struct RewriteNumbers {
     pub refusal: u8,
+    pub place: usize,
     pub length: usize,
 }
 

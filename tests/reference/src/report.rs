@@ -1,7 +1,9 @@
 //! The text of the printed report, from the bytes of a stored table.
-//! Follows document 01, section "The printed report".
+//! Follows document 01, section "The printed report", and document 02, No. 3: a
+//! refusal is printed with its place, if it has one.
 
 use crate::form::{self, Factor};
+use crate::refusal::Refused;
 use crate::space;
 use crate::table;
 
@@ -54,7 +56,7 @@ fn function_lines(n: usize, on: &[u16], free: &[u16]) -> Vec<String> {
             let products = form.products.iter();
             lines.extend(products.map(|product| product_line(n, product)));
         }
-        Err(number) => lines.push(format!("refused {number}")),
+        Err(number) => lines.push(Refused::from(number).to_string()),
     }
     lines
 }
@@ -63,7 +65,7 @@ fn function_lines(n: usize, on: &[u16], free: &[u16]) -> Vec<String> {
 pub fn report(bytes: &[u8]) -> String {
     let (n, on, free) = match table::read_stored(bytes) {
         Ok(table) => table,
-        Err(number) => return format!("refused {number}\n"),
+        Err(refused) => return format!("{refused}\n"),
     };
     let mut lines = vec![
         format!("variables {n}"),

@@ -1,9 +1,9 @@
 //! Tables of on and free points: the tests on two lists, and the reader of a
 //! stored table. Follows document 01, sections "Points and spaces", "The
-//! written form" and "Refusal numbers".
+//! written form" and "Refusal numbers", and document 02, No. 3.
 
-use crate::refusal;
-use crate::walk::{self, Fault, Faulty};
+use crate::refusal::{self, Refused};
+use crate::walk;
 
 /// Most variables that a table may have.
 pub const MOST_VARIABLES: usize = 12;
@@ -64,7 +64,7 @@ pub fn check(n: usize, on: &[u16], free: &[u16]) -> Result<(), u8> {
 }
 
 /// Walks the records of an input that isn't too long.
-fn walk_records(bytes: &[u8]) -> Result<Stored, Faulty> {
+fn walk_records(bytes: &[u8]) -> Result<Stored, Refused> {
     let variables = walk::first_record(bytes)?;
     let mut records = Vec::new();
     let mut place = 2;
@@ -80,7 +80,7 @@ fn walk_records(bytes: &[u8]) -> Result<Stored, Faulty> {
                 walk::last_record(bytes, place, records.len())?;
                 return Ok(Stored { variables, records });
             }
-            _ => return Err((Fault::Kind, place)),
+            _ => return Err(Refused::at(refusal::WRONG_KIND, place)),
         }
     }
 }
@@ -88,13 +88,13 @@ fn walk_records(bytes: &[u8]) -> Result<Stored, Faulty> {
 /// Walks a stored table from the left: its records as laid out, or the first
 /// fault and its place. An input that is too long has bytes after the end at
 /// place 12,293, if no earlier byte is at fault.
-pub fn walk_stored(bytes: &[u8]) -> Result<Stored, Faulty> {
+pub fn walk_stored(bytes: &[u8]) -> Result<Stored, Refused> {
     if bytes.len() <= LONGEST_STORED {
         return walk_records(bytes);
     }
     match walk_records(&bytes[..LONGEST_STORED]) {
-        Err((fault, place)) if place < LONGEST_STORED => Err((fault, place)),
-        _ => Err((Fault::Trailing, LONGEST_STORED)),
+        Err(refused) if refused.place < LONGEST_STORED => Err(refused),
+        _ => Err(Refused::at(refusal::BYTES_AFTER, LONGEST_STORED)),
     }
 }
 
@@ -104,13 +104,10 @@ fn points_of_kind(records: &[(u8, u16)], kind: u8) -> Vec<u16> {
     chosen.map(|record| record.1).collect()
 }
 
-/// Reads a stored table: refusal 8 for the layout over the whole length, then
-/// 1, 2 and 3, where all records are one list.
-pub fn read_stored(bytes: &[u8]) -> Result<Table, u8> {
-    let stored = match walk_stored(bytes) {
-        Ok(stored) => stored,
-        Err(_) => return Err(refusal::BAD_BYTES),
-    };
+/// Reads a stored table: refusals 20, 21, 25 and 26 with their places over the
+/// whole length, then 1, 2 and 3, where all records are one list.
+pub fn read_stored(bytes: &[u8]) -> Result<Table, Refused> {
+    let stored = walk_stored(bytes)?;
     let n = usize::from(stored.variables);
     let points: Vec<u16> = stored.records.iter().map(|record| record.1).collect();
     check(n, &points, &[])?;

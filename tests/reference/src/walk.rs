@@ -1,12 +1,13 @@
 //! Steps that the readers of tables and of forms share: the kinds of record,
 //! and a walk from the left that stops at the first fault and names its place.
-//! Follows document 01, section "The written form".
+//! Follows document 01, section "The written form", and document 02, No. 3.
 //!
-//! Document 01, section "Refusal numbers", gives 8 for every fault here. The
-//! finer numbers 20 to 27 and the places split that 8. The place is the first
-//! byte at fault, or the length of the input where bytes are missing. A body is
-//! judged only when all of it is there, and a fault in it stands at its first
-//! byte; a wrong kind, or a product too many, stands at the kind byte.
+//! The place is the first byte at fault, or the length of the input where bytes
+//! are missing. A body is judged only when all of it is there, and a fault in it
+//! stands at its first byte; a wrong kind, or a product too many, stands at the
+//! kind byte. Module `faults` judges the same bytes without a walk.
+
+use crate::refusal::{self, Refused};
 
 /// Kind of the first record, whose body is n.
 pub const KIND_VARIABLES: u8 = 0x4E;
@@ -21,43 +22,18 @@ pub const KIND_ON: u8 = 0x4F;
 /// Kind of a free point.
 pub const KIND_FREE: u8 = 0x44;
 
-/// What is wrong with bytes, by its finer number.
-#[derive(Clone, Copy, Debug, PartialEq, Eq)]
-#[repr(u8)]
-pub enum Fault {
-    /// An unknown or misplaced kind.
-    Kind = 20,
-    /// Bytes are missing.
-    Missing = 21,
-    /// A form's n is 0 or above 12.
-    Variables = 22,
-    /// A factor's constant or mask is out of range.
-    Factor = 23,
-    /// A factor doesn't agree with those before it in its product.
-    NotCanonical = 24,
-    /// The last record holds a wrong count.
-    Count = 25,
-    /// Bytes stand after the end.
-    Trailing = 26,
-    /// A product too many.
-    Products = 27,
-}
-
-/// The first fault and the byte place where it stands.
-pub type Faulty = (Fault, usize);
-
 /// The kind byte at a place; missing bytes stand at the input's length.
-pub fn kind_at(bytes: &[u8], place: usize) -> Result<u8, Faulty> {
+pub fn kind_at(bytes: &[u8], place: usize) -> Result<u8, Refused> {
     match bytes.get(place) {
         Some(&kind) => Ok(kind),
-        None => Err((Fault::Missing, bytes.len())),
+        None => Err(Refused::at(refusal::BYTES_MISSING, bytes.len())),
     }
 }
 
 /// The whole body that starts at a place; a cut one is missing bytes.
-pub fn body_at(bytes: &[u8], place: usize, length: usize) -> Result<&[u8], Faulty> {
+pub fn body_at(bytes: &[u8], place: usize, length: usize) -> Result<&[u8], Refused> {
     if bytes.len() < place + length {
-        return Err((Fault::Missing, bytes.len()));
+        return Err(Refused::at(refusal::BYTES_MISSING, bytes.len()));
     }
     Ok(&bytes[place..place + length])
 }
@@ -73,22 +49,22 @@ pub fn number_bytes(number: u16) -> [u8; 2] {
 }
 
 /// The first record: kind 4E and one byte, which is handed back unjudged.
-pub fn first_record(bytes: &[u8]) -> Result<u8, Faulty> {
+pub fn first_record(bytes: &[u8]) -> Result<u8, Refused> {
     if kind_at(bytes, 0)? != KIND_VARIABLES {
-        return Err((Fault::Kind, 0));
+        return Err(Refused::at(refusal::WRONG_KIND, 0));
     }
     Ok(body_at(bytes, 1, 1)?[0])
 }
 
 /// The last record, whose kind byte stands at `place`: its count must be
 /// `expected`, and no byte may follow it.
-pub fn last_record(bytes: &[u8], place: usize, expected: usize) -> Result<(), Faulty> {
+pub fn last_record(bytes: &[u8], place: usize, expected: usize) -> Result<(), Refused> {
     let count = number(body_at(bytes, place + 1, 2)?);
     if usize::from(count) != expected {
-        return Err((Fault::Count, place + 1));
+        return Err(Refused::at(refusal::WRONG_COUNT, place + 1));
     }
     if bytes.len() > place + 3 {
-        return Err((Fault::Trailing, place + 3));
+        return Err(Refused::at(refusal::BYTES_AFTER, place + 3));
     }
     Ok(())
 }

@@ -1,5 +1,5 @@
 //! Two stored tables side by side: worked examples, the order of refusals, rooms
-//! and first points. Follows document 02, No. 1.
+//! and first points. Follows document 02, No. 1 and No. 3.
 
 use reference::calls;
 use reference::compare::{self, DIFFERENCE_LENGTH};
@@ -13,6 +13,7 @@ const FILL: u8 = 0xA5;
 fn compared(records: usize, next_point: usize, total: usize) -> ComparisonNumbers {
     ComparisonNumbers {
         refusal: 0,
+        place: 0,
         records,
         next_point,
         total,
@@ -93,42 +94,49 @@ fn points_of_two_bytes() {
     assert_eq!(call(&left, &right, 0, 14), (compared(3, 1024, 3), records));
 }
 
-/// Bytes that are refused with this number, or with none for 0.
-fn faulty(refusal: u8) -> Vec<u8> {
-    match refusal {
-        8 => vec![],
-        1 => write_stored(MOST_VARIABLES + 1, &[], &[]),
-        2 => write_stored(2, &[4], &[]),
-        3 => write_records(2, &[(0x4F, 1), (0x44, 1)]),
-        _ => write_stored(2, &[1], &[]),
-    }
+/// Bytes that are refused, each with its number and place.
+fn faulty() -> [(u8, usize, Vec<u8>); 7] {
+    [
+        (20, 2, vec![0x4E, 2, 0x50, 0x45, 1, 0]),
+        (21, 0, vec![]),
+        (25, 6, vec![0x4E, 2, 0x4F, 1, 0, 0x45, 2, 0]),
+        (26, 5, vec![0x4E, 2, 0x45, 0, 0, 0]),
+        (1, 0, write_stored(MOST_VARIABLES + 1, &[], &[])),
+        (2, 0, write_stored(2, &[4], &[])),
+        (3, 0, write_records(2, &[(0x4F, 1), (0x44, 1)])),
+    ]
 }
 
 /// All tests of the left table come before any of the right one's; then come the
-/// numbers of variables, then the first point.
+/// numbers of variables, then the first point. A place is that in the table whose
+/// number is given.
 #[test]
 fn order_of_refusals() {
-    let refusal = |left: &[u8], right: &[u8], first| {
+    let refused = |left: &[u8], right: &[u8], first| {
         let (numbers, _) = call(left, right, first, 40);
+        let ComparisonNumbers { refusal, place, .. } = numbers;
         let expected = ComparisonNumbers {
-            refusal: numbers.refusal,
+            refusal,
+            place,
             ..ComparisonNumbers::default()
         };
-        assert!(numbers == expected || numbers.refusal == 0);
-        numbers.refusal
+        assert!(numbers == expected || refusal == 0);
+        (refusal, place)
     };
-    let wider = write_stored(3, &[1], &[]);
-    for number in [8, 1, 2, 3] {
-        for other in [8, 1, 2, 3, 0] {
-            assert_eq!(refusal(&faulty(number), &faulty(other), 99), number);
+    let (narrow, wide) = (write_stored(2, &[1], &[]), write_stored(3, &[1], &[]));
+    for (number, place, bytes) in faulty() {
+        for (_, _, other) in faulty() {
+            assert_eq!(refused(&bytes, &other, 99), (number, place));
         }
-        assert_eq!(refusal(&faulty(number), &wider, 99), number);
-        assert_eq!(refusal(&wider, &faulty(number), 99), number);
+        for other in [&narrow, &wide] {
+            assert_eq!(refused(&bytes, other, 99), (number, place));
+            assert_eq!(refused(other, &bytes, 99), (number, place));
+        }
     }
-    assert_eq!(refusal(&faulty(0), &wider, 99), 10);
-    assert_eq!(refusal(&wider, &faulty(0), 0), 10);
-    assert_eq!(refusal(&faulty(0), &faulty(0), 5), 11);
-    assert_eq!(refusal(&faulty(0), &faulty(0), 4), 0);
+    assert_eq!(refused(&narrow, &wide, 99), (10, 0));
+    assert_eq!(refused(&wide, &narrow, 0), (10, 0));
+    assert_eq!(refused(&narrow, &narrow, 5), (11, 0));
+    assert_eq!(refused(&narrow, &narrow, 4), (0, 0));
 }
 
 /// The lists of the table of n variables whose marks are the digits of a number to

@@ -1,13 +1,13 @@
 //! Forms: reading, faults and their places, points, and the form written for a
-//! table. Follows document 01, section "The written form".
+//! table. Follows document 01, section "The written form", and document 02, No. 3.
 
 use reference::cover;
-use reference::form::{self, Factor, Form};
+use reference::form::{self, read_form, Factor, Form};
 use reference::generate::{self, Generator};
 use reference::primes;
+use reference::refusal::*;
 use reference::space;
 use reference::table::MOST_VARIABLES;
-use reference::walk::Fault;
 use std::collections::BTreeSet;
 
 /// A form of four variables with one product of the given masks, as bytes.
@@ -21,13 +21,15 @@ fn one_product(masks: &[u16]) -> Vec<u8> {
 
 #[test]
 fn canonical_products() {
-    assert!(form::walk_form(&one_product(&[8, 6])).is_ok());
-    assert!(form::walk_form(&one_product(&[])).is_ok());
-    let not_canonical = Err((Fault::NotCanonical, 8));
-    assert_eq!(form::walk_form(&one_product(&[8, 10])), not_canonical);
-    assert_eq!(form::walk_form(&one_product(&[4, 8])), not_canonical);
-    assert_eq!(form::walk_form(&one_product(&[12, 4])), not_canonical);
-    assert_eq!(form::walk_form(&one_product(&[4, 4])), not_canonical);
+    assert!(read_form(&one_product(&[8, 6])).is_ok());
+    assert!(read_form(&one_product(&[])).is_ok());
+    let not_canonical = |place| Err(Refused::at(NOT_CANONICAL, place));
+    assert_eq!(read_form(&one_product(&[8, 10])), not_canonical(8));
+    assert_eq!(read_form(&one_product(&[4, 8])), not_canonical(8));
+    assert_eq!(read_form(&one_product(&[12, 4])), not_canonical(8));
+    assert_eq!(read_form(&one_product(&[4, 4])), not_canonical(8));
+    assert_eq!(read_form(&one_product(&[8, 6, 3])), not_canonical(12));
+    assert_eq!(read_form(&one_product(&[8, 4, 9])), not_canonical(12));
 }
 
 #[test]
@@ -48,39 +50,48 @@ fn there_is_one_canonical_product_for_each_pseudocube() {
 
 #[test]
 fn places_of_faults() {
-    let walk = form::walk_form;
-    assert_eq!(walk(&[]), Err((Fault::Missing, 0)));
-    assert_eq!(walk(&[0x4D, 4]), Err((Fault::Kind, 0)));
-    assert_eq!(walk(&[0x4E]), Err((Fault::Missing, 1)));
-    assert_eq!(walk(&[0x4E, 0]), Err((Fault::Variables, 1)));
+    let fault = |bytes: &[u8]| {
+        let Refused { refusal, place } = read_form(bytes).expect_err("a fault");
+        (refusal, place)
+    };
+    assert_eq!(fault(&[]), (BYTES_MISSING, 0));
+    assert_eq!(fault(&[0x4D, 4]), (WRONG_KIND, 0));
+    assert_eq!(fault(&[0x4E]), (BYTES_MISSING, 1));
+    assert_eq!(fault(&[0x4E, 0]), (WRONG_VARIABLES, 1));
     let above = MOST_VARIABLES as u8 + 1;
-    assert_eq!(walk(&[0x4E, above]), Err((Fault::Variables, 1)));
-    assert_eq!(walk(&[0x4E, 4, 0x58, 1, 1, 0]), Err((Fault::Kind, 2)));
-    assert_eq!(walk(&[0x4E, 4, 0x4F, 1, 0]), Err((Fault::Kind, 2)));
-    assert_eq!(walk(&[0x4E, 4, 0x50, 0x58, 2]), Err((Fault::Missing, 5)));
+    assert_eq!(fault(&[0x4E, above]), (WRONG_VARIABLES, 1));
+    assert_eq!(fault(&[0x4E, 4, 0x58, 1, 1, 0]), (WRONG_KIND, 2));
+    assert_eq!(fault(&[0x4E, 4, 0x4F, 1, 0]), (WRONG_KIND, 2));
+    assert_eq!(fault(&[0x4E, 4, 0x50, 0x58, 2]), (BYTES_MISSING, 5));
     let bad_constant = [0x4E, 4, 0x50, 0x58, 2, 4, 0];
-    assert_eq!(walk(&bad_constant), Err((Fault::Factor, 4)));
+    assert_eq!(fault(&bad_constant), (WRONG_FACTOR, 4));
     let bad_mask = [0x4E, 4, 0x50, 0x58, 1, 16, 0];
-    assert_eq!(walk(&bad_mask), Err((Fault::Factor, 4)));
+    assert_eq!(fault(&bad_mask), (WRONG_FACTOR, 4));
     let no_mask = [0x4E, 4, 0x50, 0x58, 1, 0, 0];
-    assert_eq!(walk(&no_mask), Err((Fault::Factor, 4)));
+    assert_eq!(fault(&no_mask), (WRONG_FACTOR, 4));
     let both = [0x4E, 4, 0x50, 0x58, 1, 4, 0, 0x58, 2, 4, 0];
-    assert_eq!(walk(&both), Err((Fault::Factor, 8)));
-    assert_eq!(walk(&[0x4E, 4, 0x45, 1, 0, 0]), Err((Fault::Count, 3)));
-    assert_eq!(walk(&[0x4E, 4, 0x45, 0, 0, 0]), Err((Fault::Trailing, 5)));
+    assert_eq!(fault(&both), (WRONG_FACTOR, 8));
+    assert_eq!(fault(&[0x4E, 4, 0x45, 1, 0, 0]), (WRONG_COUNT, 3));
+    assert_eq!(fault(&[0x4E, 4, 0x45, 0, 0, 0]), (BYTES_AFTER, 5));
 }
 
+/// A product too many stands at its kind byte, whatever comes after it.
 #[test]
-fn sixty_four_and_sixty_five_products() {
+fn sixty_four_products_and_more() {
     let form = |products| Form {
         variables: 1,
         products: vec![Vec::new(); products],
     };
-    let full = form::encode(&form(64));
-    assert_eq!(form::read_form(&full), Ok(form(64)));
-    let more = form::encode(&form(65));
-    assert_eq!(form::walk_form(&more), Err((Fault::Products, 66)));
-    assert_eq!(form::read_form(&more), Err(8));
+    assert_eq!(read_form(&form::encode(&form(64))), Ok(form(64)));
+    let too_many = Err(Refused::at(TOO_MANY_PRODUCTS, 66));
+    for products in [65, 66, 128, 320] {
+        let bytes = form::encode(&form(products));
+        assert_eq!(read_form(&bytes), too_many);
+        assert_eq!(read_form(&bytes[..67]), too_many);
+    }
+    let mut bytes = form::encode(&form(65));
+    bytes[66] = 0x4F;
+    assert_eq!(read_form(&bytes), Err(Refused::at(WRONG_KIND, 66)));
 }
 
 /// Whether a form is right as a value: n, factors and products.
@@ -96,19 +107,24 @@ fn is_right(form: &Form) -> bool {
             .all(|product| product.iter().all(in_range) && form::is_canonical(product))
 }
 
-/// What bytes are read as gives the same bytes when written; a fault has its
-/// place inside the bytes, or at their length when bytes are missing.
+/// What bytes are read as gives the same bytes when written. Bytes are missing at
+/// the length; any other fault stands at a byte, and with that byte and all behind it
+/// cut off the bytes are a form, or bytes are missing there.
 fn check_bytes(bytes: &[u8]) {
-    match form::walk_form(bytes) {
+    let Refused { refusal, place } = match read_form(bytes) {
         Ok(form) => {
             assert!(is_right(&form));
             assert_eq!(form::encode(&form), bytes);
+            return;
         }
-        Err((fault, place)) => {
-            assert!(place <= bytes.len());
-            assert_eq!(fault == Fault::Missing, place == bytes.len());
-            assert_eq!(form::read_form(bytes), Err(8));
-        }
+        Err(refused) => refused,
+    };
+    assert!(place <= bytes.len());
+    assert_eq!(refusal == BYTES_MISSING, place == bytes.len());
+    let before = read_form(&bytes[..place]);
+    match refusal {
+        BYTES_AFTER => assert!(before.is_ok()),
+        _ => assert_eq!(before, Err(Refused::at(BYTES_MISSING, place))),
     }
 }
 
@@ -120,17 +136,16 @@ fn reading_and_writing_random_and_damaged_forms() {
             let form = generate::random_form(&mut generator, n, products);
             assert!(is_right(&form));
             let bytes = form::encode(&form);
-            assert_eq!(form::read_form(&bytes), Ok(form));
+            assert_eq!(read_form(&bytes), Ok(form));
             generate::every_changed_byte(&bytes).for_each(|damaged| check_bytes(&damaged));
             generate::extensions(&bytes).for_each(|damaged| check_bytes(&damaged));
             for cut in generate::cuts(&bytes) {
-                assert_eq!(form::walk_form(&cut), Err((Fault::Missing, cut.len())));
+                let missing = Refused::at(BYTES_MISSING, cut.len());
+                assert_eq!(read_form(&cut), Err(missing));
             }
             for damaged in generate::wrong_counts(&bytes) {
-                assert_eq!(
-                    form::walk_form(&damaged),
-                    Err((Fault::Count, bytes.len() - 2))
-                );
+                let wrong_count = Refused::at(WRONG_COUNT, bytes.len() - 2);
+                assert_eq!(read_form(&damaged), Err(wrong_count));
             }
         }
     }
@@ -153,7 +168,7 @@ fn check_written_form(n: usize, on: &[u16], free: &[u16]) {
     assert_eq!(form::points(&form), points);
     let bytes = form::encode(&form);
     assert!(bytes.len() <= 1307);
-    assert_eq!(form::read_form(&bytes), Ok(form));
+    assert_eq!(read_form(&bytes), Ok(form));
 }
 
 #[test]

@@ -1,5 +1,5 @@
 //! Lines of the report that are easy to get wrong, with whole outputs.
-//! Follows document 01, section "The printed report".
+//! Follows document 01, section "The printed report", and document 02, No. 3.
 
 use reference::report::report as text_of;
 use reference::table;
@@ -38,9 +38,12 @@ fn variables_stand_in_index_order() {
 }
 
 #[test]
-fn a_refused_table_prints_its_number_alone() {
+fn a_refused_table_prints_its_number_and_a_place_if_it_has_one() {
     let on = |point| (0x4F, point);
-    assert_eq!(text_of(&[]), "refused 8\n");
+    assert_eq!(text_of(&[]), "refused 21 at 0\n");
+    assert_eq!(text_of(&[0x50]), "refused 20 at 0\n");
+    assert_eq!(text_of(&[0x4E, 2, 0x45, 1, 0]), "refused 25 at 3\n");
+    assert_eq!(text_of(&[0x4E, 2, 0x45, 0, 0, 0]), "refused 26 at 5\n");
     let wide = table::write_records(table::MOST_VARIABLES as u8 + 1, &[]);
     assert_eq!(text_of(&wide), "refused 1\n");
     let large = table::write_records(2, &[on(1), on(1), on(4)]);

@@ -1,6 +1,6 @@
 //! Lent rooms of the public calls: exact, longer and one short; refused calls
-//! return 0 beside their number and change nothing. Follows document 01, section
-//! "Refusal numbers".
+//! return 0 beside their number, or its place, and change nothing. Follows document
+//! 01, section "Refusal numbers", and document 02, No. 3.
 
 use reference::calls;
 use reference::form;
@@ -180,26 +180,32 @@ fn restriction_of_six_and_of_seven_variables() {
 #[test]
 fn rooms_of_reports_on_refused_tables() {
     for (bytes, text) in [
-        (&[][..], "refused 8\n"),
+        (&[][..], "refused 21 at 0\n"),
         (&[0x4E, MOST_VARIABLES as u8 + 1, 0x45, 0, 0], "refused 1\n"),
     ] {
         check_byte_room(text.as_bytes(), |room| calls::report(bytes, room).refusal);
-        let short = calls::report(bytes, &mut [0; 9]);
+        let short = calls::report(bytes, &mut vec![0; text.len() - 1]);
         let refused = ReportNumbers {
             refusal: 7,
             length: 0,
         };
         assert_eq!(short, refused);
-        assert_eq!(calls::report(bytes, &mut [0; 99]).length, 10);
+        assert_eq!(calls::report(bytes, &mut [0; 99]).length, text.len());
     }
 }
 
 #[test]
 fn faults_of_a_form_come_before_its_room() {
     let most = MOST_VARIABLES as u8;
-    assert_eq!(calls::form_points(&[0x4E, most + 1], &mut []).refusal, 8);
-    assert_eq!(calls::form_rewrite(&[], &mut []).refusal, 8);
+    let read = calls::form_points(&[0x4E, most + 1], &mut []);
+    assert_eq!((read.refusal, read.place), (22, 1));
+    let rewritten = calls::form_rewrite(&[0x4E], &mut []);
+    assert_eq!((rewritten.refusal, rewritten.place), (21, 1));
     let everywhere = [0x4E, most, 0x50, 0x45, 1, 0];
-    let refusal = |length| calls::form_points(&everywhere, &mut vec![0; length]).refusal;
-    assert_eq!([MOST_POINTS - 1, MOST_POINTS].map(refusal), [7, 0]);
+    let refused = |length| {
+        let read = calls::form_points(&everywhere, &mut vec![0; length]);
+        (read.refusal, read.place)
+    };
+    assert_eq!(refused(MOST_POINTS - 1), (7, 0));
+    assert_eq!(refused(MOST_POINTS), (0, 0));
 }

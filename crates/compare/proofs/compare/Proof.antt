@@ -6,6 +6,7 @@ use borrow.Author.Needs.{needs}
 use lib.Pow.{pow-mono}
 use Rattle.gf2.specs.Limits.{maxVariables}
 use Rattle.table.specs.Flags.{maxPoints}
+use Rattle.table.specs.declared.Fault.{Fault}
 use Rattle.stored.specs.Marks.{storedVariables}
 use Rattle.stored.proofs.Accepting.{stored-laid, stored-accepted}
 use Rattle.compare.specs.Answer.{tableSize, Comparable, compareFault}
@@ -19,22 +20,27 @@ compare-fault-requires c κs = search needs
 
 returns : tie.Need-returns
 returns c =
-    let f = c .before in
+    let f = c .before .before in
     let a = f .before .before .before .before .args in
     compare-refused (a .left .now) (a .right .now) (a .first) (a .room .now) (f .compare-fault .result) (f .compare-fault .ensures) (c .if1 .taken)
 
--- The call has no refusal, so that both tables are accepted and the first point is at most 2 ^ n.
-none : (c : tie.Else1) → let a = c .before .before .before .before .before .args in compareFault (a .left .now) (a .right .now) (a .first) ≡ 0
-none c = sym (c .before .compare-fault .ensures) ∙ c .if1 .left
+-- Both tables, the first point and the room, as the call was given them.
+abbrev given : tie.Else1 → tie.Start
+given c = c .before .before .before .before .before .before
 
-sound : (c : tie.Else1) → let a = c .before .before .before .before .before .args in Comparable (a .left .now) (a .right .now) × (a .first ≤ tableSize (a .left .now))
-sound c = let a = c .before .before .before .before .before .args in compare-exactly (a .left .now) (a .right .now) (a .first) .0 (none c)
+-- The call has no refusal, so that both tables are accepted and the first point is at most 2 ^ n.
+none : (c : tie.Else1) → let a = given c .args in compareFault (a .left .now) (a .right .now) (a .first) ≡ 0
+unfolding compareFault
+none c = sym (ap (λ (f : Fault). f .number) (c .before .before .compare-fault .ensures)) ∙ c .if1 .left
+
+sound : (c : tie.Else1) → let a = given c .args in Comparable (a .left .now) (a .right .now) × (a .first ≤ tableSize (a .left .now))
+sound c = let a = given c .args in compare-exactly (a .left .now) (a .right .now) (a .first) .0 (none c)
 
 variables-requires : tie.Need-variables-requires
-variables-requires c κs = stored-laid (c .before .before .before .before .before .args .left .now) (sound c .0 .left-sound)
+variables-requires c κs = stored-laid (given c .args .left .now) (sound c .0 .left-sound)
 
-few : (c : tie.Else1) → storedVariables (c .before .before .before .before .before .args .left .now) ≤ maxVariables
-few c = stored-accepted (c .before .before .before .before .before .args .left .now) (sound c .0 .left-sound) .few
+few : (c : tie.Else1) → storedVariables (given c .args .left .now) ≤ maxVariables
+few c = stored-accepted (given c .args .left .now) (sound c .0 .left-sound) .few
 
 point-count-requires : tie.Need-point-count-requires
 point-count-requires c κs = omega (arith, c .variables .ensures, few (c .before))
@@ -44,7 +50,7 @@ cast-size c = search needs
 
 -- The number of points, as it was computed.
 size : (c : tie.After-point-count)
-    → let e = c .before .before in c .point-count .result ≡ tableSize (e .before .before .before .before .before .args .left .now)
+    → let e = c .before .before in c .point-count .result ≡ tableSize (given e .args .left .now)
 size c = c .point-count .ensures ∙ ap (λ (n : ℕ). 2 ^ n) (c .before .variables .ensures)
 
 within : (c : tie.After-point-count) → c .point-count .result ≤ maxPoints
@@ -75,7 +81,7 @@ returns-2 c =
     let m = d .before .before .before in
     let p = m .before .before in
     let e = p .before .before in
-    let a = e .before .before .before .before .before .args in
+    let a = given e .args in
     compare-answer (a .left .now) (a .right .now) (a .first) (a .room .now) (none e) (m .before .marks-of .result) (m .marks-of2 .result) (m .before .marks-of .ensures) (m .marks-of2 .ensures)
     (size p) (d .count-differing .ensures) (w .write-differing .ensures .0) (w .write-differing .ensures .1)
 

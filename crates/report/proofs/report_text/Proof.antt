@@ -8,7 +8,8 @@ use Rattle.table.specs.Table.{Accepted}
 use Rattle.table.specs.Flags.{maxPoints}
 use Rattle.text.proofs.Writing.{room-same, wrote-same}
 use Rattle.stored.specs.declared.TableRead.{TableRead}
-use Rattle.table_report.specs.Text.{refusedLine, tableText}
+use Rattle.lines.specs.Lines.{faultLine}
+use Rattle.table_report.specs.Text.{tableText}
 use Rattle.report.specs.Report.{reportText}
 use Rattle.report.proofs.Answering.{read-refused, read-table, read-text, on-fits, free-fits}
 use Rattle.report.proofs.report_text.Statement.{statement}
@@ -45,23 +46,17 @@ module _ (c : tie.Then1) where
   abbrev tried : tie.After-read-table
   tried = c .before .before .before
 
-  refused : refusedLine (read tried .refusal) ≡ reportText (bytes tried)
+  refused : faultLine (read tried .refusal) (read tried .place) ≡ reportText (bytes tried)
   refused = read-refused (bytes tried) zeros zeros long long (read tried) (tried .read-table .ensures .0) (c .if1 .taken)
 
-slice-aggregate-number-line : tie.Need-slice-aggregate-number-line
-slice-aggregate-number-line c = search needs
-
-cast-number-line : tie.Need-cast-number-line
-cast-number-line c = search needs
-
-number-line-requires : tie.Need-number-line-requires
-number-line-requires c κs = let t = c .before .before in room-same (sym (refused t)) (start (tried t) .pre)
+fault-line-requires : tie.Need-fault-line-requires
+fault-line-requires c κs = let t = c .before in room-same (sym (refused t)) (start (tried t) .pre)
 
 same-length : tie.Need-same-length
 same-length c = search needs
 
 returns : tie.Need-returns
-returns c = let l = c .before .before in wrote-same (refused (l .before .before .before)) (l .number-line .ensures)
+returns c = let l = c .before .before in wrote-same (refused (l .before .before)) (l .fault-line .ensures)
 
 -- It is read: its points are at the front of the two arrays, it is accepted, and its text is the report.
 module _ (c : tie.Else1) where
@@ -124,9 +119,7 @@ report-text-spec =
     slice-aggregate-read-table
     slice-aggregate-read-table-2
     read-table-requires
-    slice-aggregate-number-line
-    cast-number-line
-    number-line-requires
+    fault-line-requires
     same-length
     returns
     sub-table-text

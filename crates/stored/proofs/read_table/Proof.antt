@@ -3,7 +3,9 @@ use mathlib.Core.Path.{_≡_, sym, ap, _∙_}
 use mathlib.Core.Logic.{_≢_}
 use borrow.Author.Needs.{needs}
 use lib.ListN.{length}
-use Rattle.stored.specs.Reading.{readFault, readRefused}
+use Rattle.table.specs.declared.Fault.{Fault}
+use Rattle.table.specs.Refusal.{faultAt}
+use Rattle.stored.specs.Reading.{readFault, readPlace, readRefused}
 use Rattle.stored.proofs.Accepting.{stored-laid}
 use Rattle.stored.proofs.Rooms.{read-fits, refused-read, refused-on, refused-free, accepted-read, accepted-on, accepted-free}
 use Rattle.stored.proofs.read_table.Statement.{statement}
@@ -12,35 +14,50 @@ use Rattle.stored.proofs.read_table.Tie as tie
 read-fault-requires : tie.Need-read-fault-requires
 read-fault-requires c κs = search needs
 
+-- What was found is the refusal of reading, with its place.
+told : (c : tie.After-read-fault)
+    → let a = c .before .before .before .before .args in
+    let on = length (a .on .now) in
+    let free = length (a .free .now) in
+    c .read-fault .result ≡ faultAt (readFault (a .bytes .now) on free) (readPlace (a .bytes .now) on free)
+unfolding readFault readPlace
+told c = c .read-fault .ensures
+
+number : (c : tie.After-read-fault)
+    → let a = c .before .before .before .before .args in
+    c .read-fault .result .number ≡ readFault (a .bytes .now) (length (a .on .now)) (length (a .free .now))
+number c = ap (λ (x : Fault). x .number) (told c)
+
 returns : tie.Need-returns
 returns c =
-    let f = c .before in
+    let f = c .before .before in
     let a = f .before .before .before .before .args in
     let bytes = a .bytes .now in
     let on = a .on .now in
     let free = a .free .now in
-    let nz : readFault bytes (length on) (length free) ≢ 0 = λ z. c .if1 .taken (f .read-fault .ensures ∙ z) in
-    (ap readRefused (f .read-fault .ensures) ∙ sym (refused-read bytes on free nz), (sym (refused-on bytes on free nz), sym (refused-free bytes on free nz)))
+    let nz : readFault bytes (length on) (length free) ≢ 0 = λ z. c .if1 .taken (number f ∙ z) in
+    (ap (λ (x : Fault). readRefused (x .place) (x .number)) (told f) ∙ sym (refused-read bytes on free nz), (sym (refused-on bytes on free nz), sym (refused-free bytes on free nz)))
 
 -- Past the test nothing is refused.
 accepted : (c : tie.Else1)
     → readFault
-    (c .before .before .before .before .before .args .bytes .now)
-    (length (c .before .before .before .before .before .args .on .now))
-    (length (c .before .before .before .before .before .args .free .now))
+    (c .before .before .before .before .before .before .args .bytes .now)
+    (length (c .before .before .before .before .before .before .args .on .now))
+    (length (c .before .before .before .before .before .before .args .free .now))
     ≡ 0
-accepted c = sym (c .before .read-fault .ensures) ∙ c .if1 .left
+accepted c = sym (number (c .before .before)) ∙ c .if1 .left
 
 write-points-requires : tie.Need-write-points-requires
 write-points-requires c κs =
-    let a = c .before .before .before .before .before .before .args in
-    let h = read-fits (a .bytes .now) (length (a .on .now)) (length (a .free .now)) (accepted (c .before)) in
+    let e = c .before in
+    let a = e .before .before .before .before .before .before .args in
+    let h = read-fits (a .bytes .now) (length (a .on .now)) (length (a .free .now)) (accepted e) in
     (stored-laid (a .bytes .now) (h .0), h .1)
 
 write-points-requires-2 : tie.Need-write-points-requires-2
 write-points-requires-2 c κs =
     let e = c .before .before .before .before .before in
-    let a = e .before .before .before .before .before .args in
+    let a = e .before .before .before .before .before .before .args in
     let h = read-fits (a .bytes .now) (length (a .on .now)) (length (a .free .now)) (accepted e) in
     (stored-laid (a .bytes .now) (h .0), h .2)
 
@@ -48,7 +65,7 @@ variables-requires : tie.Need-variables-requires
 variables-requires c κs =
     let w = c .before .before .before in
     let e = w .before .before .before .before .before in
-    let a = e .before .before .before .before .before .args in
+    let a = e .before .before .before .before .before .before .args in
     stored-laid (a .bytes .now) (read-fits (a .bytes .now) (length (a .on .now)) (length (a .free .now)) (accepted e) .0)
 
 same-length : tie.Need-same-length
@@ -62,7 +79,7 @@ returns-2 c =
     let second = c .before .before .before in
     let first = second .before .before .before .before in
     let e = first .before .before in
-    let a = e .before .before .before .before .before .args in
+    let a = e .before .before .before .before .before .before .args in
     let bytes = a .bytes .now in
     let on = a .on .now in
     let free = a .free .now in

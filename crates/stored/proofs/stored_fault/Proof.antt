@@ -1,15 +1,13 @@
--- `stored::stored_fault` meets its contract: at each return the tests up to it are known, and the list of tests computes. Assumes nothing.
+-- `stored::stored_fault` meets its contract: what the walk found is the refusal, and without a fault the tests of n and the points decide. Assumes nothing.
 use mathlib.Core.Path.{_≡_, sym, ap, _∙_}
 use Prim.Native.Nat.{ℕ}
 use borrow.Author.Needs.{needs}
-use Rattle.table.specs.Refusal.{firstFault}
-use Rattle.table.specs.Table.{badCount, outside}
-use Rattle.table.proofs.Table.{good-count}
-use Rattle.records.specs.Walks.{layoutOf}
+use Rattle.table.specs.declared.Fault.{Fault}
+use Rattle.table.specs.Refusal.{faultAt}
+use Rattle.records.specs.Walks.{faultNumber, faultFound}
+use Rattle.records.proofs.Numbers.{none-fault}
 use Rattle.stored.specs.Layout.{walked}
-use Rattle.stored.specs.Marks.{storedVariables, storedPoints}
-use Rattle.stored.specs.Stored.{LaidOut, storedFault}
-use Rattle.stored.proofs.Accepting.{stored-layout, layout-laid}
+use Rattle.stored.proofs.Accepting.{stored-layout, stored-points}
 use Rattle.stored.proofs.stored_fault.Statement.{statement}
 use Rattle.stored.proofs.stored_fault.Tie as tie
 
@@ -19,72 +17,31 @@ walk-table-requires c κs = search needs
 layout-fault-requires : tie.Need-layout-fault-requires
 layout-fault-requires c κs = search needs
 
+-- The number and the place are those of what the walk found.
+found : (c : tie.After-layout-fault) → c .layout-fault .result ≡ faultFound (walked (c .before .before .before .args .bytes .now))
+found c = c .layout-fault .ensures ∙ ap faultFound (c .before .walk-table .ensures)
+
 returns : tie.Need-returns
 returns c =
-    let l = c .before in
-    let s = l .before .before .before .args .bytes .now in
-    let e = l .layout-fault .ensures ∙ ap layoutOf (l .before .walk-table .ensures) in
-    e ∙ sym (stored-layout s (λ z. c .if1 .taken (e ∙ z)))
+    let l = c .before .before in
+    let e = found l in
+    e ∙ sym (stored-layout (l .before .before .before .args .bytes .now) (λ z. c .if1 .taken (ap (λ (f : Fault). f .number) e ∙ z)))
 
-laid : (c : tie.Else1) → LaidOut (c .before .before .before .before .args .bytes .now)
-laid c =
-    let l = c .before in
-    layout-laid (walked (l .before .before .before .args .bytes .now)) (sym (l .layout-fault .ensures ∙ ap layoutOf (l .before .walk-table .ensures)) ∙ c .if1 .left)
+-- Past the test the walk found no fault.
+none : (c : tie.Else1) → faultNumber (walked (c .before .before .before .before .before .args .bytes .now)) ≡ 0
+none c = sym (ap (λ (f : Fault). f .number) (found (c .before .before))) ∙ c .if1 .left
 
-variables-requires : tie.Need-variables-requires
-variables-requires c κs = laid c
+points-fault-requires : tie.Need-points-fault-requires
+points-fault-requires c κs = none-fault (walked (c .before .before .before .before .before .args .bytes .now)) (none c)
 
-bad-count-requires : tie.Need-bad-count-requires
-bad-count-requires c κs = search needs
-
--- The tests of n and of the points, as they are known once they are made.
-counted : (c : tie.After-bad-count) → badCount (storedVariables (c .before .before .before .before .before .before .args .bytes .now)) ≡ c .bad-count .result
-counted c = ap badCount (sym (c .before .variables .ensures)) ∙ sym (c .bad-count .ensures)
-
-surveyed : (c : tie.After-points-outside)
-    → let v = c .before .before .before in
-    let bytes = v .before .before .before .before .before .args .bytes .now in
-    outside (storedVariables bytes) (storedPoints bytes) ≡ c .points-outside .result
-surveyed c =
-    let v = c .before .before .before in
-    ap (λ (n : ℕ). outside n (storedPoints (v .before .before .before .before .before .args .bytes .now))) (sym (v .variables .ensures)) ∙ sym (c .points-outside .ensures)
+fault-at-requires : tie.Need-fault-at-requires
+fault-at-requires c κs = search needs
 
 returns-2 : tie.Need-returns-2
-unfolding storedFault firstFault
 returns-2 c =
-    let b = c .before in
-    rw (laid (b .before .before), counted b ∙ c .if2 .taken)
-
-points-outside-requires : tie.Need-points-outside-requires
-points-outside-requires c κs =
-    let b = c .before in
-    (laid (b .before .before), good-count _ .0 (sym (b .bad-count .ensures) ∙ c .if2 .left) .1)
-
-returns-3 : tie.Need-returns-3
-unfolding storedFault firstFault
-returns-3 c =
-    let o = c .before in
-    let b = o .before .before in
-    rw (laid (b .before .before), counted b ∙ o .before .if2 .left, surveyed o ∙ c .if3 .taken)
-
-points-unordered-requires : tie.Need-points-unordered-requires
-points-unordered-requires c κs = laid (c .before .before .before .before .before)
-
-returns-4 : tie.Need-returns-4
-unfolding storedFault firstFault
-returns-4 c =
-    let u = c .before in
-    let o = u .before .before in
-    let b = o .before .before in
-    rw (laid (b .before .before), counted b ∙ o .before .if2 .left, surveyed o ∙ u .before .if3 .left, sym (u .points-unordered .ensures) ∙ c .if4 .taken)
-
-returns-5 : tie.Need-returns-5
-unfolding storedFault firstFault
-returns-5 c =
-    let u = c .before in
-    let o = u .before .before in
-    let b = o .before .before in
-    rw (laid (b .before .before), counted b ∙ o .before .if2 .left, surveyed o ∙ u .before .if3 .left, sym (u .points-unordered .ensures) ∙ c .if4 .left)
+    let p = c .before in
+    let e = p .before in
+    c .fault-at .ensures ∙ ap (λ (k : ℕ). faultAt k 0) (p .points-fault .ensures) ∙ sym (stored-points (e .before .before .before .before .before .args .bytes .now) (none e))
 
 pub stored-fault-spec : {M : Type 1} → statement M
 stored-fault-spec =
@@ -93,11 +50,6 @@ stored-fault-spec =
     walk-table-requires
     layout-fault-requires
     returns
-    variables-requires
-    bad-count-requires
-    returns-2
-    points-outside-requires
-    returns-3
-    points-unordered-requires
-    returns-4
-    returns-5)
+    points-fault-requires
+    fault-at-requires
+    returns-2)

@@ -81,7 +81,8 @@ fn tables() -> Vec<Table> {
     tables
 }
 
-/// Stored tables, forms, and bytes that are neither.
+/// Stored tables and forms, each also without its last byte, and bytes that are
+/// neither.
 fn inputs(tables: &[Table]) -> Vec<Vec<u8>> {
     let mut generator = Generator::new(2);
     let accepted = tables.iter().filter(|(n, _, _)| *n > 0);
@@ -94,6 +95,11 @@ fn inputs(tables: &[Table]) -> Vec<Vec<u8>> {
             inputs.push(reference::form::encode(&form));
         }
     }
+    let cuts: Vec<Vec<u8>> = inputs
+        .iter()
+        .map(|bytes| bytes[..bytes.len() - 1].to_vec())
+        .collect();
+    inputs.extend(cuts);
     inputs.push(vec![]);
     inputs.push(vec![0x4E; TABLE_LENGTH + 1]);
     inputs

@@ -1,33 +1,91 @@
 //! The cases of the folder `vectors/02`: each through the library and through the
-//! reference. Follows document 02.
+//! reference, all numbers and rooms, the place among them. Follows document 02.
 
 use crate::case_files::{self, Case};
 use crate::compare;
+use crate::form_points;
+use crate::form_rewrite;
 use crate::lent_calls;
+use crate::read_table;
 use crate::tally::Tally;
 use library::settings::some;
 use reference::calls;
-use reference::numbers::ComparisonNumbers;
+use reference::numbers::{ComparisonNumbers, FormPointsNumbers, RewriteNumbers, TableNumbers};
 
-/// The place of a fault comes with No. 3. Cases of requests before it have a place,
-/// which must be 0, and the calls don't.
-fn assert_no_place(case: &Case) {
-    assert_eq!(case.gives.number::<usize>("place"), 0, "{}", case.title);
+/// The fields of a case must be these, in order of name.
+fn assert_fields(case: &Case, call: &str, takes: &[&str], gives: &[&str]) {
+    assert_eq!(case.call, call, "{}", case.title);
+    assert_eq!(case.takes.names(), takes, "{}", case.title);
+    assert_eq!(case.gives.names(), gives, "{}", case.title);
 }
 
-/// Makes the call of a case by a function, and compares numbers and room.
-fn compare_case(
+/// Each case of files of so many cases; `check` makes its call and hands back the
+/// refusal. These refusals must come up.
+fn each_case(
+    title: &'static str,
+    files: &[(&str, usize)],
+    refusals: &[u8],
+    check: impl Fn(&Case) -> u8,
+) {
+    let mut tally = Tally::new(title);
+    for &(name, count) in files {
+        let cases = case_files::read(name);
+        assert_eq!(cases.len(), count, "{name}");
+        for case in some(&cases) {
+            tally.add(check(case));
+        }
+    }
+    tally.finish(refusals);
+}
+
+/// Makes the call of a case by a function, and compares numbers and rooms.
+fn check_read_table(
+    case: &Case,
+    call: impl Fn(&[u8], &mut [u16], &mut [u16]) -> TableNumbers,
+) -> u8 {
+    let Case { takes, gives, .. } = case;
+    let expected = TableNumbers {
+        refusal: gives.number("refusal"),
+        place: gives.number("place"),
+        variables: gives.number("n"),
+        on_count: gives.number("on_count"),
+        free_count: gives.number("free_count"),
+    };
+    let (mut on, mut free) = (takes.list("on_room"), takes.list("free_room"));
+    let found = call(&takes.bytes("data"), &mut on, &mut free);
+    assert_eq!(found, expected, "{}", case.title);
+    assert_eq!(on, gives.list("on_room"), "{}", case.title);
+    assert_eq!(free, gives.list("free_room"), "{}", case.title);
+    expected.refusal
+}
+
+#[test]
+fn read_table() {
+    let takes = ["data", "free_room", "on_room"];
+    let numbers = ["free_count", "free_room", "n", "on_count", "on_room"];
+    let gives = [&numbers[..], &["place", "refusal"]].concat();
+    each_case(
+        "read table, cases",
+        &[("03-read_table", 160)],
+        &[0, 1, 2, 3, 7, 20, 21, 25, 26],
+        |case| {
+            assert_fields(case, "read_table", &takes, &gives);
+            check_read_table(case, calls::read_table);
+            check_read_table(case, |bytes, on, free| {
+                read_table::numbers(&lent_calls::read_table(bytes, on, free))
+            })
+        },
+    );
+}
+
+fn check_compare(
     case: &Case,
     call: impl Fn(&[u8], &[u8], usize, &mut [u8]) -> ComparisonNumbers,
 ) -> u8 {
-    let (title, takes, gives) = (&case.title, &case.takes, &case.gives);
-    assert_eq!(case.call, "compare", "{title}");
-    assert_eq!(takes.names(), ["first", "left", "right", "room"], "{title}");
-    let given = ["next", "place", "records", "refusal", "room", "total"];
-    assert_eq!(gives.names(), given, "{title}");
-    assert_no_place(case);
+    let Case { takes, gives, .. } = case;
     let expected = ComparisonNumbers {
         refusal: gives.number("refusal"),
+        place: gives.number("place"),
         records: gives.number("records"),
         next_point: gives.number("next"),
         total: gives.number("total"),
@@ -35,24 +93,94 @@ fn compare_case(
     let (left, right) = (takes.bytes("left"), takes.bytes("right"));
     let mut room = takes.bytes("room");
     let found = call(&left, &right, takes.number("first"), &mut room);
-    assert_eq!(found, expected, "{title}");
-    assert_eq!(room, gives.bytes("room"), "{title}");
+    assert_eq!(found, expected, "{}", case.title);
+    assert_eq!(room, gives.bytes("room"), "{}", case.title);
+    expected.refusal
+}
+
+/// The extra case of request No. 1 holds as it stands; the others of its time, some
+/// with refusal 8, are replaced by those of No. 3.
+#[test]
+fn compare() {
+    let takes = ["first", "left", "right", "room"];
+    let gives = ["next", "place", "records", "refusal", "room", "total"];
+    each_case(
+        "compare, cases",
+        &[
+            ("extra/01-compare", 1),
+            ("03-compare", 160),
+            ("extra/03-compare", 1),
+        ],
+        &[0, 1, 2, 3, 10, 11, 20, 21, 25, 26],
+        |case| {
+            assert_fields(case, "compare", &takes, &gives);
+            check_compare(case, calls::compare);
+            check_compare(case, |left, right, first, room| {
+                compare::numbers(&lent_calls::compare(left, right, first, room))
+            })
+        },
+    );
+}
+
+fn check_form_points(case: &Case, call: impl Fn(&[u8], &mut [u16]) -> FormPointsNumbers) -> u8 {
+    let Case { takes, gives, .. } = case;
+    let expected = FormPointsNumbers {
+        refusal: gives.number("refusal"),
+        place: gives.number("place"),
+        variables: gives.number("n"),
+        point_count: gives.number("count"),
+    };
+    let mut room = takes.list("room");
+    let found = call(&takes.bytes("data"), &mut room);
+    assert_eq!(found, expected, "{}", case.title);
+    assert_eq!(room, gives.list("room"), "{}", case.title);
     expected.refusal
 }
 
 #[test]
-fn compare() {
-    let mut tally = Tally::new("compare, cases");
-    for (name, count) in [("01-compare", 240), ("extra/01-compare", 1)] {
-        let cases = case_files::read(name);
-        assert_eq!(cases.len(), count, "{name}");
-        for case in some(&cases) {
-            compare_case(case, calls::compare);
-            let refusal = compare_case(case, |left, right, first, room| {
-                compare::numbers(&lent_calls::compare(left, right, first, room))
-            });
-            tally.add(refusal);
-        }
-    }
-    tally.finish(&[0, 1, 2, 3, 8, 10, 11]);
+fn form_points() {
+    let gives = ["count", "n", "place", "refusal", "room"];
+    each_case(
+        "form points, cases",
+        &[("03-form_points", 160)],
+        &[0, 7, 20, 21, 22, 23, 24, 25, 26, 27],
+        |case| {
+            assert_fields(case, "form_points", &["data", "room"], &gives);
+            check_form_points(case, calls::form_points);
+            check_form_points(case, |bytes, room| {
+                form_points::numbers(&lent_calls::form_points(bytes, room))
+            })
+        },
+    );
+}
+
+fn check_form_rewrite(case: &Case, call: impl Fn(&[u8], &mut [u8]) -> RewriteNumbers) -> u8 {
+    let Case { takes, gives, .. } = case;
+    let expected = RewriteNumbers {
+        refusal: gives.number("refusal"),
+        place: gives.number("place"),
+        length: gives.number("length"),
+    };
+    let mut room = takes.bytes("room");
+    let found = call(&takes.bytes("data"), &mut room);
+    assert_eq!(found, expected, "{}", case.title);
+    assert_eq!(room, gives.bytes("room"), "{}", case.title);
+    expected.refusal
+}
+
+#[test]
+fn form_rewrite() {
+    let gives = ["length", "place", "refusal", "room"];
+    each_case(
+        "form rewrite, cases",
+        &[("03-form_rewrite", 160)],
+        &[0, 7, 20, 21, 23, 24, 25, 26, 27],
+        |case| {
+            assert_fields(case, "form_rewrite", &["data", "room"], &gives);
+            check_form_rewrite(case, calls::form_rewrite);
+            check_form_rewrite(case, |bytes, room| {
+                form_rewrite::numbers(&lent_calls::form_rewrite(bytes, room))
+            })
+        },
+    );
 }

@@ -1,7 +1,8 @@
 //! The call that lays two stored tables side by side compared with the reference,
-//! alone and in whole lists of calls. Follows document 02, No. 1, and document 01,
-//! section "Refusal numbers".
+//! alone and in whole lists of calls. Follows document 02, No. 1 and No. 3, and
+//! document 01, section "Refusal numbers".
 
+use crate::judges;
 use crate::lent::{room_lengths, Lent};
 use crate::lent_calls;
 use crate::stored::{self, ABOVE};
@@ -20,6 +21,7 @@ use reference::table::Table;
 pub fn numbers(found: &Comparison) -> ComparisonNumbers {
     ComparisonNumbers {
         refusal: found.refusal,
+        place: found.place,
         records: found.records,
         next_point: found.next,
         total: found.total,
@@ -30,13 +32,14 @@ pub fn numbers(found: &Comparison) -> ComparisonNumbers {
 fn compared(records: usize, next_point: usize, total: usize) -> ComparisonNumbers {
     ComparisonNumbers {
         refusal: 0,
+        place: 0,
         records,
         next_point,
         total,
     }
 }
 
-/// Numbers of a refused one.
+/// Numbers of a comparison refused without a place.
 fn refused(refusal: u8) -> ComparisonNumbers {
     ComparisonNumbers {
         refusal,
@@ -63,6 +66,7 @@ fn compare_lent(tally: &mut Tally, (left, right): Pair, first: usize, length: us
         expected,
         "first {first}, room {length}, left {left:X?}, right {right:X?}"
     );
+    judges::assert_tables(left, right, (found.refusal, found.place));
     answer.truncate(DIFFERENCE_LENGTH * expected.records);
     room.assert_front(&answer);
     tally.add(found.refusal);
@@ -246,7 +250,7 @@ fn overlapping_memory() {
         }
         lent.assert_as_lent();
     }
-    tally.finish(&[0, 8]);
+    tally.finish(&[0, 20, 21, 25]);
 }
 
 /// Every point differs, each in the same way; room for all records and for all but
@@ -332,23 +336,23 @@ fn other_numbers_of_variables() {
     tally.finish(&[0, 10, 11]);
 }
 
-/// Stored bytes that are refused, and with which number; some have a fault of a
-/// later number too.
-const FAULTY: [(u8, &[u8]); 14] = [
-    (8, &[]),
-    (8, &[0x4E, 2, 0x45, 1, 0]),
-    (8, &[0x4E, 2, 0x45, 0, 0, 0]),
-    (8, &[0x4E, 0, 0x4F, 9, 9, 0x45, 2, 0]),
-    (8, &[0x4E, 2, 0x50, 0x45, 1, 0]),
-    (1, &[0x4E, 0, 0x45, 0, 0]),
-    (1, &[0x4E, 255, 0x45, 0, 0]),
-    (1, &[0x4E, ABOVE, 0x4F, 255, 255, 0x45, 1, 0]),
-    (2, &[0x4E, 2, 0x4F, 4, 0, 0x45, 1, 0]),
-    (2, &[0x4E, 2, 0x4F, 1, 0, 0x44, 0, 1, 0x45, 2, 0]),
-    (2, &[0x4E, 2, 0x4F, 4, 0, 0x44, 4, 0, 0x45, 2, 0]),
-    (3, &[0x4E, 2, 0x4F, 1, 0, 0x44, 1, 0, 0x45, 2, 0]),
-    (3, &[0x4E, 2, 0x4F, 3, 0, 0x4F, 2, 0, 0x45, 2, 0]),
-    (3, &[0x4E, 3, 0x4F, 7, 0, 0x44, 2, 0, 0x45, 2, 0]),
+/// Stored bytes that are refused, and with which number and place; some have a fault
+/// of a later number too.
+const FAULTY: [(u8, usize, &[u8]); 14] = [
+    (21, 0, &[]),
+    (25, 3, &[0x4E, 2, 0x45, 1, 0]),
+    (26, 5, &[0x4E, 2, 0x45, 0, 0, 0]),
+    (25, 6, &[0x4E, 0, 0x4F, 9, 9, 0x45, 2, 0]),
+    (20, 2, &[0x4E, 2, 0x50, 0x45, 1, 0]),
+    (1, 0, &[0x4E, 0, 0x45, 0, 0]),
+    (1, 0, &[0x4E, 255, 0x45, 0, 0]),
+    (1, 0, &[0x4E, ABOVE, 0x4F, 255, 255, 0x45, 1, 0]),
+    (2, 0, &[0x4E, 2, 0x4F, 4, 0, 0x45, 1, 0]),
+    (2, 0, &[0x4E, 2, 0x4F, 1, 0, 0x44, 0, 1, 0x45, 2, 0]),
+    (2, 0, &[0x4E, 2, 0x4F, 4, 0, 0x44, 4, 0, 0x45, 2, 0]),
+    (3, 0, &[0x4E, 2, 0x4F, 1, 0, 0x44, 1, 0, 0x45, 2, 0]),
+    (3, 0, &[0x4E, 2, 0x4F, 3, 0, 0x4F, 2, 0, 0x45, 2, 0]),
+    (3, 0, &[0x4E, 3, 0x4F, 7, 0, 0x44, 2, 0, 0x45, 2, 0]),
 ];
 
 /// Stored tables of two variables and of three.
@@ -359,25 +363,29 @@ const ACCEPTED: [&[u8]; 4] = [
     &[0x4E, 3, 0x4F, 1, 0, 0x45, 1, 0],
 ];
 
-/// The left table's refusal comes first, then the right one's, then 10, then 11.
+/// The left table's refusal comes first, then the right one's, then 10, then 11; the
+/// place is that in the table whose number is given.
 #[test]
 fn order_of_refusals() {
     let mut tally = Tally::new("compare, order of refusals");
-    let accepted = ACCEPTED.map(|bytes| (0, bytes));
+    let accepted = ACCEPTED.map(|bytes| (0, 0, bytes));
     let all = || FAULTY.into_iter().chain(accepted);
-    for (left_refusal, left) in all() {
-        for (right_refusal, right) in all() {
+    for (left_refusal, left_place, left) in all() {
+        for (right_refusal, right_place, right) in all() {
             let differs = u8::from(left.get(1) != right.get(1));
             for (first, beyond) in [(0, 0), (4, 0), (9, 11), (usize::MAX, 11)] {
-                let order = [left_refusal, right_refusal, 10 * differs, beyond];
-                let expected = order.into_iter().find(|&refusal| refusal != 0);
+                let of_left = (left_refusal, left_place);
+                let of_right = (right_refusal, right_place);
+                let order = [of_left, of_right, (10 * differs, 0), (beyond, 0)];
+                let expected = order.into_iter().find(|refused| refused.0 != 0);
                 let (found, _) = compare(&mut tally, (left, right), first, 20);
                 let context = || format!("left {left:X?}, right {right:X?}, first {first}");
-                assert_eq!(found.refusal, expected.unwrap_or(0), "{}", context());
+                let refused = (found.refusal, found.place);
+                assert_eq!(refused, expected.unwrap_or((0, 0)), "{}", context());
             }
         }
     }
-    tally.finish(&[0, 1, 2, 3, 8, 10, 11]);
+    tally.finish(&[0, 1, 2, 3, 10, 11, 20, 21, 25, 26]);
 }
 
 /// Every damage to the left and to the right of short tables, beside the whole
@@ -393,7 +401,7 @@ fn damaged_short_tables() {
             compare(&mut tally, (&damaged, &damaged), 5, 40);
         }
     }
-    tally.finish(&[0, 1, 2, 3, 8, 10, 11]);
+    tally.finish(&[0, 1, 2, 3, 10, 11, 20, 21, 25, 26]);
 }
 
 #[test]
@@ -407,7 +415,7 @@ fn damaged_long_tables() {
             compare(&mut tally, (&bytes, &damaged), 0, 40);
         }
     }
-    tally.finish(&[0, 1, 2, 3, 8]);
+    tally.finish(&[0, 1, 2, 3, 20, 21, 25, 26]);
 }
 
 /// Inputs about the longest table and faulty points, each beside the next one and
@@ -424,7 +432,7 @@ fn longest_tables_and_faulty_points() {
             compare(&mut tally, (&pair[0], &full), first, 40);
         }
     }
-    tally.finish(&[0, 1, 2, 3, 8, 10, 11]);
+    tally.finish(&[0, 1, 2, 3, 10, 11, 20, 21, 25, 26]);
 }
 
 #[test]
@@ -440,7 +448,7 @@ fn random_records() {
         let first = [0, 0, 1, 6, MAX_POINTS + 1][generator.below(5)];
         compare(&mut tally, (&left, &right), first, 9);
     }
-    tally.finish(&[0, 1, 2, 3, 8, 10, 11]);
+    tally.finish(&[0, 1, 2, 3, 10, 11, 20, 25, 26]);
 }
 
 /// Calls of lists: all, those that stopped for want of room, those that couldn't
@@ -466,7 +474,7 @@ fn random_length(generator: &mut Generator, all: usize) -> usize {
 /// A call that is refused: one of the tables is spoilt, or the first point is above
 /// 2^n.
 fn check_refused(tally: &mut Tally, generator: &mut Generator, (left, right): Pair) {
-    let (_, spoilt) = FAULTY[generator.below(FAULTY.len())];
+    let (_, _, spoilt) = FAULTY[generator.below(FAULTY.len())];
     let beyond = size_of(left) + 1 + generator.below(9);
     let (left, right, first) = match generator.below(3) {
         0 => (spoilt, right, 0),
@@ -521,7 +529,7 @@ fn lists_of_calls() {
     );
     let kinds = [counts.stopped, counts.stuck, counts.filled];
     assert_counts("compare, calls in lists", &kinds, 100);
-    tally.finish(&[0, 1, 2, 3, 8, 11]);
+    tally.finish(&[0, 1, 2, 3, 11, 20, 21, 25, 26]);
 }
 
 /// Off, on and free against each other at the points from 0 to 8: on against free

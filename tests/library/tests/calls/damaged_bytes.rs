@@ -1,27 +1,26 @@
 //! Stored tables and forms damaged at random, several times over, and the answers
 //! of all calls that read them compared with the reference. Longer runs: see
 //! `random_run`. Follows document 01, sections "The written form" and "Refusal
-//! numbers", and document 02, No. 1.
+//! numbers", and document 02, No. 1 and No. 3.
 
 use crate::compare;
 use crate::form_points;
 use crate::form_rewrite;
 use crate::forms;
+use crate::judges;
 use crate::lent::Lent;
 use crate::random_run::{self, Run};
 use crate::read_table;
 use crate::report;
 use crate::stored;
 use crate::tables;
-use glospruma::{COMPARISON_ROOM, DIFFERENCE_LENGTH, MAX_POINTS, MAX_VARIABLES};
+use glospruma::{COMPARISON_ROOM, DIFFERENCE_LENGTH, MAX_POINTS};
 use library::settings;
 use reference::calls;
-use reference::generate::Generator;
+use reference::generate::{self, Generator};
 use reference::numbers::{FormPointsNumbers, ReportNumbers, RewriteNumbers};
 use reference::refusal::SHORT_ROOM;
-use reference::walk::{
-    self, KIND_END, KIND_FACTOR, KIND_FREE, KIND_ON, KIND_PRODUCT, KIND_VARIABLES,
-};
+use reference::walk::{self, KIND_FACTOR, KIND_FREE, KIND_ON, KIND_PRODUCT};
 
 /// Cases of a run, if the environment names no other number.
 const CASES: usize = 500_000;
@@ -30,39 +29,22 @@ const CASES: usize = 500_000;
 fn whole_inputs(seed: u64) -> Vec<Vec<u8>> {
     let tables = tables::random_tables(seed).chain(tables::kept_tables(seed, 2, 6));
     let tables = tables.map(|table| stored::bytes_of(&table));
-    let all = tables.chain(forms::random_forms(seed));
+    let forms = forms::random_forms(seed).chain(forms::most_products());
+    let all = tables.chain(forms);
     let (short, long): (Vec<_>, Vec<_>) = all.partition(|bytes| bytes.len() < 120);
     let some_long = long.into_iter().step_by(80);
     short.into_iter().chain(some_long).collect()
-}
-
-/// A byte that means something at many places, or any other.
-fn telling_byte(generator: &mut Generator) -> u8 {
-    let kinds = [
-        KIND_VARIABLES,
-        KIND_PRODUCT,
-        KIND_FACTOR,
-        KIND_END,
-        KIND_ON,
-        KIND_FREE,
-    ];
-    match generator.below(4) {
-        0 => kinds[generator.below(kinds.len())],
-        1 => generator.below(MAX_VARIABLES + 2) as u8,
-        2 => 1 << generator.below(8),
-        _ => generator.below(256) as u8,
-    }
 }
 
 /// A damage to bytes; the place is inside them.
 type Damage = fn(&mut Generator, &mut Vec<u8>, usize);
 
 const DAMAGES: [Damage; 10] = [
-    |generator, bytes, place| bytes[place] = telling_byte(generator),
+    |generator, bytes, place| bytes[place] = generate::telling_byte(generator),
     |generator, bytes, place| bytes[place] ^= 1 << generator.below(8),
     |_, bytes, place| bytes[place] = bytes[place].wrapping_add(1),
-    |generator, bytes, place| bytes.insert(place, telling_byte(generator)),
-    |generator, bytes, _| bytes.push(telling_byte(generator)),
+    |generator, bytes, place| bytes.insert(place, generate::telling_byte(generator)),
+    |generator, bytes, _| bytes.push(generate::telling_byte(generator)),
     |_, bytes, place| bytes.truncate(place),
     remove_piece,
     repeat_piece,
@@ -168,6 +150,7 @@ impl Readers {
         let answer = &answer[..accepted.point_count];
         let call = |room: &mut [u16]| {
             let found = library::form_points(bytes, room);
+            judges::assert_form(bytes, (found.refusal, found.place));
             (found.refusal, form_points::numbers(&found))
         };
         self.run.compare(&bytes, answer, (accepted, short), call);
@@ -183,6 +166,7 @@ impl Readers {
         let answer = &answer[..accepted.length];
         let call = |room: &mut [u8]| {
             let found = library::form_rewrite(bytes, room);
+            judges::assert_form(bytes, (found.refusal, found.place));
             (found.refusal, form_rewrite::numbers(&found))
         };
         self.run.compare(&bytes, answer, (accepted, short), call);
@@ -190,6 +174,7 @@ impl Readers {
 
     fn report(&mut self, bytes: &[u8]) {
         let text = reference::report::report(bytes);
+        judges::assert_report(bytes, text.as_bytes());
         let accepted = ReportNumbers {
             refusal: 0,
             length: text.len(),
@@ -255,5 +240,7 @@ fn at_random() {
         let bytes = damaged(&mut readers.run.generator, &inputs);
         readers.all(&bytes);
     }
-    readers.run.tally.finish(&[0, 1, 2, 3, 7, 8, 10, 11]);
+    let faults = [20, 21, 22, 23, 24, 25, 26, 27];
+    let expected = [&[0, 1, 2, 3, 7, 10, 11][..], &faults].concat();
+    readers.run.tally.finish(&expected);
 }

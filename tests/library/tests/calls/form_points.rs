@@ -1,7 +1,9 @@
 //! The call that reads a form into its points compared with the reference.
-//! Follows document 01, sections "The written form" and "Refusal numbers".
+//! Follows document 01, sections "The written form" and "Refusal numbers", and
+//! document 02, No. 3.
 
 use crate::forms;
+use crate::judges::{self, Refused};
 use crate::lent::{with_each_room, Lent};
 use crate::lent_calls;
 use crate::stored;
@@ -19,6 +21,7 @@ use reference::refusal::SHORT_ROOM;
 pub fn numbers(found: &FormPoints) -> FormPointsNumbers {
     FormPointsNumbers {
         refusal: found.refusal,
+        place: found.place,
         variables: found.variables,
         point_count: found.count,
     }
@@ -39,10 +42,27 @@ fn compare(tally: &mut Tally, bytes: &[u8]) -> Option<Vec<u16>> {
         let expected = if fits { accepted } else { short };
         let found = library::form_points(lent.part(), room);
         assert_eq!(numbers(&found), expected, "room {}, {bytes:X?}", room.len());
+        judges::assert_form(bytes, (found.refusal, found.place));
         lent.assert_as_lent();
         tally.add(found.refusal);
     });
     (accepted.refusal == 0).then_some(answer)
+}
+
+/// Makes the call with a room of so many points; the reference makes it on an equal
+/// room, and then all numbers and all memory are compared. Hands back number and
+/// place.
+pub fn compare_in(tally: &mut Tally, bytes: &[u8], length: usize) -> Refused {
+    let (lent, mut room) = (Lent::holding(bytes), Lent::room(length));
+    let mut answer = room.part().to_vec();
+    let expected = calls::form_points(bytes, &mut answer);
+    let found = library::form_points(lent.part(), room.part_mut());
+    assert_eq!(numbers(&found), expected, "room {length}, {bytes:X?}");
+    judges::assert_form(bytes, (found.refusal, found.place));
+    lent.assert_as_lent();
+    room.assert_front(&answer[..expected.point_count]);
+    tally.add(found.refusal);
+    (found.refusal, found.place)
 }
 
 #[test]
@@ -60,7 +80,7 @@ fn bounds() {
     for bytes in forms::bounds() {
         compare(&mut tally, &bytes);
     }
-    tally.finish(&[0, 7, 8]);
+    tally.finish(&[0, 7, 22, 24, 27]);
 }
 
 /// A canonical product of f factors has 2^(n-f) points. Each space of masks has
@@ -79,7 +99,7 @@ fn every_short_list_of_masks() {
         }
     }
     assert_eq!(accepted, [2, 5, 16, 66]);
-    tally.finish(&[0, 7, 8]);
+    tally.finish(&[0, 7, 23, 24]);
 }
 
 #[test]
@@ -88,7 +108,7 @@ fn broken_products() {
     for bytes in forms::broken_forms(151) {
         assert_eq!(compare(&mut tally, &bytes), None);
     }
-    tally.finish(&[8]);
+    tally.finish(&[23, 24]);
 }
 
 #[test]
@@ -97,7 +117,7 @@ fn damaged_forms() {
     for bytes in forms::damaged_forms(152) {
         compare(&mut tally, &bytes);
     }
-    tally.finish(&[0, 7, 8]);
+    tally.finish(&[0, 7, 20, 21, 22, 23, 24, 25, 26, 27]);
 }
 
 /// Only an empty table has the bytes of a form, which is the form without
@@ -110,7 +130,7 @@ fn stored_tables() {
         let is_empty = table.1.is_empty() && table.2.is_empty();
         assert_eq!(points, is_empty.then(Vec::new));
     }
-    tally.finish(&[0, 8]);
+    tally.finish(&[0, 20]);
 }
 
 #[test]
@@ -122,7 +142,7 @@ fn random_bytes() {
         compare(&mut tally, &forms::random_bytes(&mut generator));
         compare(&mut tally, &generate::random_records(&mut generator, 6));
     }
-    tally.finish(&[0, 7, 8]);
+    tally.finish(&[0, 7, 20, 21, 22, 23, 24, 25, 26]);
 }
 
 /// The form written for a table has the points of its completion.
@@ -140,9 +160,10 @@ fn written_forms() {
 
 #[test]
 fn faulty_forms() {
-    for bytes in forms::FAULTY {
+    for (refusal, place, bytes) in forms::FAULTY {
         let refused = FormPoints {
-            refusal: 8,
+            refusal,
+            place,
             ..Default::default()
         };
         assert_eq!(

@@ -1,7 +1,9 @@
 //! The call that writes a form as it was read compared with the reference.
-//! Follows document 01, sections "The written form" and "Refusal numbers".
+//! Follows document 01, sections "The written form" and "Refusal numbers", and
+//! document 02, No. 3.
 
 use crate::forms;
+use crate::judges::{self, Refused};
 use crate::lent::{with_each_room, Lent};
 use crate::lent_calls;
 use crate::stored;
@@ -19,6 +21,7 @@ use reference::refusal::SHORT_ROOM;
 pub fn numbers(found: &FormRewrite) -> RewriteNumbers {
     RewriteNumbers {
         refusal: found.refusal,
+        place: found.place,
         length: found.length,
     }
 }
@@ -41,10 +44,27 @@ fn compare(tally: &mut Tally, bytes: &[u8]) -> bool {
         let expected = if fits { accepted } else { short };
         let found = library::form_rewrite(lent.part(), room);
         assert_eq!(numbers(&found), expected, "room {}, {bytes:X?}", room.len());
+        judges::assert_form(bytes, (found.refusal, found.place));
         lent.assert_as_lent();
         tally.add(found.refusal);
     });
     is_form
+}
+
+/// Makes the call with a room of so many bytes; the reference makes it on an equal
+/// room, and then all numbers and all memory are compared. Hands back number and
+/// place.
+pub fn compare_in(tally: &mut Tally, bytes: &[u8], length: usize) -> Refused {
+    let (lent, mut room) = (Lent::holding(bytes), Lent::room(length));
+    let mut answer = room.part().to_vec();
+    let expected = calls::form_rewrite(bytes, &mut answer);
+    let found = library::form_rewrite(lent.part(), room.part_mut());
+    assert_eq!(numbers(&found), expected, "room {length}, {bytes:X?}");
+    judges::assert_form(bytes, (found.refusal, found.place));
+    lent.assert_as_lent();
+    room.assert_front(&answer[..expected.length]);
+    tally.add(found.refusal);
+    (found.refusal, found.place)
 }
 
 #[test]
@@ -66,7 +86,7 @@ fn bounds() {
         }
     }
     assert_eq!(longest, 2 + 64 * (1 + MAX_VARIABLES * 4) + 3);
-    tally.finish(&[0, 7, 8]);
+    tally.finish(&[0, 7, 22, 24, 27]);
 }
 
 #[test]
@@ -77,7 +97,7 @@ fn every_short_list_of_masks() {
         forms.filter(|&is_form| is_form).count()
     });
     assert_eq!(accepted, [2, 5, 16, 66]);
-    tally.finish(&[0, 7, 8]);
+    tally.finish(&[0, 7, 23, 24]);
 }
 
 #[test]
@@ -86,7 +106,7 @@ fn broken_products() {
     for bytes in forms::broken_forms(161) {
         assert!(!compare(&mut tally, &bytes));
     }
-    tally.finish(&[8]);
+    tally.finish(&[23, 24]);
 }
 
 #[test]
@@ -95,7 +115,7 @@ fn damaged_forms() {
     for bytes in forms::damaged_forms(162) {
         compare(&mut tally, &bytes);
     }
-    tally.finish(&[0, 7, 8]);
+    tally.finish(&[0, 7, 20, 21, 22, 23, 24, 25, 26, 27]);
 }
 
 /// Only an empty table has the bytes of a form.
@@ -107,7 +127,7 @@ fn stored_tables() {
         let is_empty = table.1.is_empty() && table.2.is_empty();
         assert_eq!(is_form, is_empty);
     }
-    tally.finish(&[0, 7, 8]);
+    tally.finish(&[0, 7, 20]);
 }
 
 #[test]
@@ -119,7 +139,7 @@ fn random_bytes() {
         compare(&mut tally, &forms::random_bytes(&mut generator));
         compare(&mut tally, &generate::random_records(&mut generator, 6));
     }
-    tally.finish(&[0, 7, 8]);
+    tally.finish(&[0, 7, 20, 21, 22, 23, 24, 25, 26]);
 }
 
 #[test]
@@ -133,9 +153,10 @@ fn written_forms() {
 
 #[test]
 fn faulty_forms() {
-    for bytes in forms::FAULTY {
+    for (refusal, place, bytes) in forms::FAULTY {
         let refused = FormRewrite {
-            refusal: 8,
+            refusal,
+            place,
             length: 0,
         };
         assert_eq!(

@@ -1,6 +1,6 @@
 //! Forms as bytes, whole and damaged in every way. Follows document 01, section
-//! "The written form". The same seed gives the same forms; of long lists the share
-//! is made that the environment asks for.
+//! "The written form", and document 02, No. 3. The same seed gives the same forms; of
+//! long lists the share is made that the environment asks for.
 
 use crate::lent_calls;
 use crate::stored::{self, ABOVE};
@@ -91,6 +91,11 @@ pub fn random_forms(seed: u64) -> impl Iterator<Item = Vec<u8>> {
     let widths = (0..ROUNDS).flat_map(|_| 1..=MAX_VARIABLES);
     let kinds = widths.flat_map(|n| MAKERS.map(|maker| (n, maker)));
     some(kinds).map(move |(n, maker)| bytes_of(n, maker(&mut generator, n)))
+}
+
+/// Forms of 64 products without factors, one for each number of variables.
+pub fn most_products() -> impl Iterator<Item = Vec<u8>> {
+    (1..=MAX_VARIABLES).map(|n| bytes_of(n, vec![Vec::new(); MOST_PRODUCTS]))
 }
 
 /// Inputs about the bounds: every byte as n, with no product and with one that
@@ -209,9 +214,7 @@ fn several_damages(bytes: &[u8]) -> Vec<Vec<u8>> {
     }
     for place in 0..bytes.len() {
         for kind in [KIND_VARIABLES, KIND_PRODUCT, KIND_FACTOR, KIND_END] {
-            let mut changed = bytes.to_vec();
-            changed[place] = kind;
-            all.push(changed);
+            all.push(generate::with_byte(bytes, place, kind));
         }
     }
     all.extend(generate::cuts(bytes));
@@ -302,36 +305,48 @@ pub fn points_read(n: usize, form: &[u8]) -> Vec<u16> {
     room[..found.count].to_vec()
 }
 
-/// Bytes that aren't a form, most by a single fault and at the bound of a number.
-pub const FAULTY: [&[u8]; 30] = [
-    &[],
-    &[0x4E],
-    &[0x4E, 1],
-    &[0x45, 0, 0],
-    &[0x4E, 0, 0x45, 0, 0],
-    &[0x4E, ABOVE, 0x45, 0, 0],
-    &[0x4E, 255, 0x45, 0, 0],
-    &[0x4F, 1, 0x45, 0, 0],
-    &[0x4E, 1, 0x45, 0],
-    &[0x4E, 1, 0x45, 1, 0],
-    &[0x4E, 1, 0x45, 0, 1],
-    &[0x4E, 1, 0x45, 0, 0, 0],
-    &[0x4E, 1, 0x45, 0, 0, 0x45, 0, 0],
-    &[0x4E, 1, 0x4E, 1, 0x45, 0, 0],
-    &[0x4E, 1, 0x50],
-    &[0x4E, 1, 0x50, 0x45, 0, 0],
-    &[0x4E, 1, 0x50, 0x45, 1, 1],
-    &[0x4E, 1, 0x58, 1, 1, 0, 0x45, 0, 0],
-    &[0x4E, 1, 0x58, 1, 1, 0, 0x50, 0x45, 1, 0],
-    &[0x4E, 1, 0x50, 0x4F, 1, 0, 0x45, 1, 0],
-    &[0x4E, 1, 0x4F, 1, 0, 0x45, 1, 0],
-    &[0x4E, 4, 0x50, 0x58, 2, 4, 0, 0x45, 1, 0],
-    &[0x4E, 4, 0x50, 0x58, 1, 0, 0, 0x45, 1, 0],
-    &[0x4E, 4, 0x50, 0x58, 1, 16, 0, 0x45, 1, 0],
-    &[0x4E, 4, 0x50, 0x58, 1, 4, 1, 0x45, 1, 0],
-    &[0x4E, 12, 0x50, 0x58, 1, 0, 16, 0x45, 1, 0],
-    &[0x4E, 4, 0x50, 0x58, 1, 8, 0, 0x58, 1, 10, 0, 0x45, 1, 0],
-    &[0x4E, 4, 0x50, 0x58, 1, 4, 0, 0x58, 1, 8, 0, 0x45, 1, 0],
-    &[0x4E, 4, 0x50, 0x58, 1, 12, 0, 0x58, 1, 4, 0, 0x45, 1, 0],
-    &[0x4E, 4, 0x50, 0x58, 1, 4, 0, 0x58, 0, 4, 0, 0x45, 1, 0],
+/// Bytes that aren't a form, with number and place, most by a single fault and at the
+/// bound of a number.
+pub const FAULTY: [(u8, usize, &[u8]); 37] = [
+    (21, 0, &[]),
+    (21, 1, &[0x4E]),
+    (21, 2, &[0x4E, 1]),
+    (20, 0, &[0x45, 0, 0]),
+    (22, 1, &[0x4E, 0]),
+    (22, 1, &[0x4E, 0, 0x45, 0, 0]),
+    (22, 1, &[0x4E, ABOVE, 0x45, 0, 0]),
+    (22, 1, &[0x4E, 255, 0x45, 0, 0]),
+    (20, 0, &[0x4F, 1, 0x45, 0, 0]),
+    (21, 4, &[0x4E, 1, 0x45, 0]),
+    (25, 3, &[0x4E, 1, 0x45, 1, 0]),
+    (25, 3, &[0x4E, 1, 0x45, 0, 1]),
+    (25, 3, &[0x4E, 1, 0x45, 1, 0, 0]),
+    (26, 5, &[0x4E, 1, 0x45, 0, 0, 0]),
+    (26, 5, &[0x4E, 1, 0x45, 0, 0, 0x45, 0, 0]),
+    (20, 2, &[0x4E, 1, 0x4E, 1, 0x45, 0, 0]),
+    (21, 3, &[0x4E, 1, 0x50]),
+    (25, 4, &[0x4E, 1, 0x50, 0x45, 0, 0]),
+    (25, 4, &[0x4E, 1, 0x50, 0x45, 1, 1]),
+    (20, 2, &[0x4E, 1, 0x58, 1, 1, 0, 0x45, 0, 0]),
+    (20, 2, &[0x4E, 1, 0x58, 1, 1, 0, 0x50, 0x45, 1, 0]),
+    (20, 3, &[0x4E, 1, 0x50, 0x4F, 1, 0, 0x45, 1, 0]),
+    (20, 2, &[0x4E, 1, 0x4F, 1, 0, 0x45, 1, 0]),
+    (21, 5, &[0x4E, 4, 0x50, 0x58, 2]),
+    (23, 4, &[0x4E, 4, 0x50, 0x58, 2, 4, 0]),
+    (23, 4, &[0x4E, 4, 0x50, 0x58, 2, 4, 0, 0x45, 1, 0]),
+    (23, 4, &[0x4E, 4, 0x50, 0x58, 1, 0, 0, 0x45, 1, 0]),
+    (23, 4, &[0x4E, 4, 0x50, 0x58, 1, 16, 0, 0x45, 1, 0]),
+    (23, 4, &[0x4E, 4, 0x50, 0x58, 1, 4, 1, 0x45, 1, 0]),
+    (23, 4, &[0x4E, 12, 0x50, 0x58, 1, 0, 16, 0x45, 1, 0]),
+    (23, 8, &[0x4E, 4, 0x50, 0x58, 1, 4, 0, 0x58, 2, 4, 0]),
+    (24, 8, &[0x4E, 4, 0x50, 0x58, 1, 8, 0, 0x58, 1, 10, 0]),
+    (24, 8, &[0x4E, 4, 0x50, 0x58, 1, 4, 0, 0x58, 1, 8, 0]),
+    (24, 8, &[0x4E, 4, 0x50, 0x58, 1, 12, 0, 0x58, 1, 4, 0]),
+    (24, 8, &[0x4E, 4, 0x50, 0x58, 1, 4, 0, 0x58, 0, 4, 0]),
+    (
+        24,
+        12,
+        &[0x4E, 4, 0x50, 0x58, 1, 8, 0, 0x58, 1, 4, 0, 0x58, 1, 9, 0],
+    ),
+    (21, 10, &[0x4E, 4, 0x50, 0x58, 1, 4, 0, 0x58, 0, 4]),
 ];

@@ -3,7 +3,7 @@
 //! tables and bytes, good and faulty, and rooms of every kind. The other tests
 //! have one of the two for each slice. Numbers and rooms must be the same; the
 //! other tests compare them with the reference. Follows document 01, section
-//! "Refusal numbers", and document 02, No. 1.
+//! "Refusal numbers", and document 02, No. 1 and No. 3.
 
 use crate::forms;
 use crate::lent::{room_lengths, Entry, Guard, Lent};

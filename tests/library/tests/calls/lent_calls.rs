@@ -1,6 +1,6 @@
 //! The calls for tests that have their lists and rooms in plain memory: each is
 //! made on a copy in lent memory, and what it left in a room is copied back.
-//! Follows document 01, section "Refusal numbers", and document 02, No. 1.
+//! Follows document 01, section "Refusal numbers", and document 02, No. 1 and No. 3.
 
 use crate::lent::{Entry, Lent};
 use library::{Affine, Analysis, Comparison, Completion, FormPoints, FormRewrite};

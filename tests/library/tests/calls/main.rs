@@ -1,9 +1,10 @@
 //! Comparison of each call of the static library with the reference, one module
 //! to a call; `cases`, `examples`, `published` and `vectors` compare with fixed
 //! answers instead. `damaged_bytes` and `damaged_lists` make all calls on inputs
-//! damaged at random, `guarded` makes every call on the same input twice, with
-//! guard pages on either side, `small_stack` makes them with little stack, and
-//! `safe` makes the safe calls of the Rust package. Follows document 01, sections
+//! damaged at random, `places` makes those that read bytes on inputs with faults at
+//! every place, `guarded` makes every call on the same input twice, with guard pages
+//! on either side, `small_stack` makes them with little stack, and `safe` makes the
+//! safe calls of the Rust package. Follows document 01, sections
 //! "Points and spaces", "Primes", "The written form", "Refusal numbers", "The
 //! printed report" and "Table of proved examples", and document 02.
 //!
@@ -15,6 +16,7 @@
 
 mod case_files;
 mod forms;
+mod judges;
 mod lent;
 mod lent_calls;
 mod lists;
@@ -41,6 +43,7 @@ mod damaged_bytes;
 mod damaged_lists;
 mod examples;
 mod guarded;
+mod places;
 mod published;
 mod safe;
 mod small_stack;

@@ -1,6 +1,7 @@
 //! The reader of stored tables compared with the reference. Follows document 01,
-//! sections "The written form" and "Refusal numbers".
+//! sections "The written form" and "Refusal numbers", and document 02, No. 3.
 
+use crate::judges::{self, Refused};
 use crate::lent::{room_lengths, Lent};
 use crate::lent_calls;
 use crate::stored::{self, ABOVE};
@@ -14,9 +15,10 @@ use reference::generate::{self, Generator};
 use reference::numbers::TableNumbers;
 
 /// The numbers of the call in the reference's words.
-fn numbers(found: &TableRead) -> TableNumbers {
+pub fn numbers(found: &TableRead) -> TableNumbers {
     TableNumbers {
         refusal: found.refusal,
+        place: found.place,
         variables: found.variables,
         on_count: found.on_count,
         free_count: found.free_count,
@@ -24,8 +26,9 @@ fn numbers(found: &TableRead) -> TableNumbers {
 }
 
 /// Makes the call with rooms of these lengths; the reference makes it on equal
-/// rooms, and then all numbers and all memory are compared.
-pub fn compare(tally: &mut Tally, bytes: &[u8], on_length: usize, free_length: usize) {
+/// rooms, and then all numbers and all memory are compared. Hands back number and
+/// place.
+pub fn compare(tally: &mut Tally, bytes: &[u8], on_length: usize, free_length: usize) -> Refused {
     let lent = Lent::holding(bytes);
     let (mut on, mut free) = (Lent::room(on_length), Lent::room(free_length));
     let (mut on_answer, mut free_answer) = (on.part().to_vec(), free.part().to_vec());
@@ -36,10 +39,12 @@ pub fn compare(tally: &mut Tally, bytes: &[u8], on_length: usize, free_length: u
         expected,
         "rooms {on_length} and {free_length}, {bytes:X?}"
     );
+    judges::assert_table(bytes, (found.refusal, found.place));
     lent.assert_as_lent();
     on.assert_front(&on_answer[..expected.on_count]);
     free.assert_front(&free_answer[..expected.free_count]);
     tally.add(found.refusal);
+    (found.refusal, found.place)
 }
 
 /// Makes the call with every pair of the lengths of room to try.
@@ -82,7 +87,7 @@ fn damaged_short_tables() {
             compare(&mut tally, &damaged, 0, 0);
         }
     }
-    tally.finish(&[0, 1, 2, 3, 7, 8]);
+    tally.finish(&[0, 1, 2, 3, 7, 20, 21, 25, 26]);
 }
 
 #[test]
@@ -96,7 +101,7 @@ fn damaged_long_tables() {
             compare(&mut tally, &damaged, MAX_POINTS, MAX_POINTS);
         }
     }
-    tally.finish(&[0, 1, 2, 3, 8]);
+    tally.finish(&[0, 1, 2, 3, 20, 21, 25, 26]);
 }
 
 #[test]
@@ -106,7 +111,7 @@ fn longest_tables() {
         compare_rooms(&mut tally, &bytes);
         compare(&mut tally, &bytes, 2 * MAX_POINTS, 70_000);
     }
-    tally.finish(&[0, 1, 2, 7, 8]);
+    tally.finish(&[0, 1, 2, 7, 20, 21, 25, 26]);
 }
 
 #[test]
@@ -128,21 +133,28 @@ fn random_records() {
         let bytes = generate::random_records(&mut generator, 6);
         compare(&mut tally, &bytes, 2, 2);
     }
-    tally.finish(&[0, 1, 2, 3, 7, 8]);
+    tally.finish(&[0, 1, 2, 3, 7, 20, 21, 25, 26]);
 }
 
 #[test]
 fn order_of_refusals() {
-    let refusal = |bytes: &[u8]| lent_calls::read_table(bytes, &mut [], &mut []).refusal;
-    assert_eq!(refusal(&[]), 8);
-    assert_eq!(refusal(&[0x4E, 0, 0x45, 0, 0]), 1);
-    assert_eq!(refusal(&[0x4E, 0, 0x45, 1, 0]), 8);
-    assert_eq!(refusal(&[0x4E, ABOVE, 0x4F, 255, 255, 0x45, 1, 0]), 1);
-    assert_eq!(refusal(&[0x4E, 2, 0x4F, 1, 0, 0x45, 1, 1]), 8);
-    assert_eq!(refusal(&[0x4E, 2, 0x4F, 4, 0, 0x4F, 4, 0, 0x45, 2, 0]), 2);
+    let refused = |bytes: &[u8]| {
+        let found = lent_calls::read_table(bytes, &mut [], &mut []);
+        (found.refusal, found.place)
+    };
+    assert_eq!(refused(&[]), (21, 0));
+    assert_eq!(refused(&[0x4E, 0, 0x45, 0, 0]), (1, 0));
+    assert_eq!(refused(&[0x4E, 0, 0x45, 1, 0]), (25, 3));
+    let wide = [0x4E, ABOVE, 0x4F, 255, 255, 0x45, 1, 0];
+    assert_eq!(refused(&wide), (1, 0));
+    assert_eq!(refused(&[0x4E, 2, 0x4F, 1, 0, 0x45, 1, 1]), (25, 6));
+    let large = [0x4E, 2, 0x4F, 4, 0, 0x4F, 4, 0, 0x45, 2, 0];
+    assert_eq!(refused(&large), (2, 0));
     let late_large = [0x4E, 2, 0x4F, 1, 0, 0x4F, 1, 0, 0x44, 4, 0, 0x45, 3, 0];
-    assert_eq!(refusal(&late_large), 2);
-    assert_eq!(refusal(&[0x4E, 2, 0x4F, 1, 0, 0x44, 1, 0, 0x45, 2, 0]), 3);
-    assert_eq!(refusal(&[0x4E, 2, 0x4F, 1, 0, 0x44, 2, 0, 0x45, 2, 0]), 7);
-    assert_eq!(refusal(&[0x4E, 2, 0x45, 0, 0]), 0);
+    assert_eq!(refused(&late_large), (2, 0));
+    let equal = [0x4E, 2, 0x4F, 1, 0, 0x44, 1, 0, 0x45, 2, 0];
+    assert_eq!(refused(&equal), (3, 0));
+    let rising = [0x4E, 2, 0x4F, 1, 0, 0x44, 2, 0, 0x45, 2, 0];
+    assert_eq!(refused(&rising), (7, 0));
+    assert_eq!(refused(&[0x4E, 2, 0x45, 0, 0]), (0, 0));
 }

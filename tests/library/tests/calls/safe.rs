@@ -1,14 +1,16 @@
 //! The safe calls of the Rust package compared with its raw ones, which the other
 //! tests compare with the reference: an answer has the same numbers and the front
-//! of the room, and a refusal its number. Follows document 01, section "Refusal
-//! numbers", and document 02, No. 1.
+//! of the room, and a refusal its number, with its place from a call that reads
+//! bytes. Follows document 01, section "Refusal numbers", and document 02, No. 1 and
+//! No. 3.
 
 use crate::compare::stored_pairs;
 use crate::guarded::{some_bytes, some_tables};
 use crate::lent::{Entry, Lent};
 use crate::lent_calls;
 use crate::stored;
-use glospruma::{Difference, Refusal, COMPARISON_ROOM, DIFFERENCE_LENGTH, RECORD_LENGTH};
+use glospruma::{Difference, Refusal, Refused};
+use glospruma::{COMPARISON_ROOM, DIFFERENCE_LENGTH, RECORD_LENGTH};
 use glospruma::{MAX_LISTED, MAX_POINTS, MAX_VARIABLES, TABLE_LENGTH};
 use library::{Affine, Analysis, Comparison, Completion, FormPoints, FormRewrite};
 use library::{FormWritten, LinearSpace, Listed, Report, TableRead};
@@ -21,23 +23,34 @@ const ROOMS: [usize; 4] = [0, 5, 60, 30_000];
 
 /// Compares the numbers of a raw call with those of a safe one: either those made
 /// from its answer, or those of its refusal.
-fn compare<A, N: PartialEq + Debug>(
+fn compare<A, E, N: PartialEq + Debug>(
     raw: N,
-    safe: Result<A, Refusal>,
+    safe: Result<A, E>,
     accepted: impl FnOnce(A) -> N,
-    refused: impl FnOnce(u8) -> N,
+    refused: impl FnOnce(E) -> N,
 ) {
     match safe {
         Ok(answer) => assert_eq!(accepted(answer), raw),
-        Err(refusal) => assert_eq!(refused(refusal.into()), raw),
+        Err(error) => assert_eq!(refused(error), raw),
     }
 }
 
 /// Numbers of a refused call: all others are 0.
 macro_rules! refused {
     ($numbers:ident) => {
-        |refusal| $numbers {
-            refusal,
+        |refusal: Refusal| $numbers {
+            refusal: refusal.into(),
+            ..Default::default()
+        }
+    };
+}
+
+/// Numbers of a refused call that reads bytes: all but the place are 0.
+macro_rules! refused_at {
+    ($numbers:ident) => {
+        |Refused { refusal, place }: Refused| $numbers {
+            refusal: refusal.into(),
+            place,
             ..Default::default()
         }
     };
@@ -149,6 +162,7 @@ fn stored_table(bytes: &[u8], length: usize) {
         assert_eq!(found.free, &free[..raw.free_count]);
         TableRead {
             refusal: 0,
+            place: 0,
             variables: found.variables,
             on_count: found.on.len(),
             free_count: found.free.len(),
@@ -156,7 +170,7 @@ fn stored_table(bytes: &[u8], length: usize) {
     };
     let (safe_on, safe_free) = (other_on.part_mut(), other_free.part_mut());
     let safe = glospruma::read_table(Lent::holding(bytes).part(), safe_on, safe_free);
-    compare(raw, safe, read, refused!(TableRead));
+    compare(raw, safe, read, refused_at!(TableRead));
     other_on.assert_front(&on);
     other_free.assert_front(&free);
 }
@@ -179,13 +193,14 @@ fn comparison(left: &[u8], right: &[u8], length: usize) {
             assert_eq!(records, room[..DIFFERENCE_LENGTH * raw.records]);
             Comparison {
                 refusal: 0,
+                place: 0,
                 records: found.differences().len(),
                 next: found.next,
                 total: found.total,
             }
         };
         let safe = glospruma::compare(left, right, first, other.part_mut());
-        compare(raw, safe, compared, refused!(Comparison));
+        compare(raw, safe, compared, refused_at!(Comparison));
     }
     other.assert_front(&room);
 }
@@ -205,7 +220,10 @@ fn differences(left: &[u8], right: &[u8]) {
             assert_eq!(records, room[..DIFFERENCE_LENGTH * expected.total]);
             assert_eq!(expected.refusal, 0);
         }
-        Err(refusal) => assert_eq!(u8::from(refusal), expected.refusal),
+        Err(Refused { refusal, place }) => {
+            assert_eq!(u8::from(refusal), expected.refusal);
+            assert_eq!(place, expected.place);
+        }
     }
 }
 
@@ -217,24 +235,24 @@ fn form_and_report(bytes: &[u8], length: usize) {
     let read = |found: glospruma::FormPoints| {
         assert_eq!(found.points, &points[..raw.count]);
         FormPoints {
-            refusal: 0,
             variables: found.variables,
             count: found.points.len(),
+            ..FormPoints::default()
         }
     };
     let safe = glospruma::form_points(bytes, other_points.part_mut());
-    compare(raw, safe, read, refused!(FormPoints));
+    compare(raw, safe, read, refused_at!(FormPoints));
     let (mut room, mut other) = equal_rooms(length);
     let raw = lent_calls::form_rewrite(bytes, &mut room);
     let rewritten = |found: glospruma::RewrittenForm| {
         assert_eq!(found.bytes, &room[..raw.length]);
         FormRewrite {
-            refusal: 0,
             length: found.bytes.len(),
+            ..FormRewrite::default()
         }
     };
     let safe = glospruma::form_rewrite(bytes, other.part_mut());
-    compare(raw, safe, rewritten, refused!(FormRewrite));
+    compare(raw, safe, rewritten, refused_at!(FormRewrite));
     let raw = lent_calls::report(bytes, &mut room);
     let reported = |found: glospruma::Report| {
         assert_eq!(found.text.as_bytes(), &room[..raw.length]);

@@ -1,7 +1,7 @@
 //! Every call in a thread with as little stack as include/glospruma.h asks for;
 //! one that used more would touch the thread's guard page and stop the test. The
 //! program `stack` prints what each call uses. Follows document 01, section "What
-//! the library holds", and document 02, No. 1.
+//! the library holds", and document 02, No. 1 and No. 3.
 
 use crate::lent_calls;
 use crate::stored;
@@ -20,6 +20,9 @@ fn make_calls((n, on, free): &Table) {
     let (mut form, mut text) = (vec![0; WRITTEN_ROOM], vec![0; REPORT_ROOM]);
     let read = lent_calls::read_table(&bytes, &mut points, &mut others);
     assert_eq!((read.refusal, read.variables), (0, n));
+    let cut = &bytes[..bytes.len() - 1];
+    let refused = lent_calls::read_table(cut, &mut points, &mut others);
+    assert_eq!((refused.refusal, refused.place), (21, cut.len()));
     let empty = stored::bytes_of(&(n, vec![], vec![]));
     let compared = lent_calls::compare(&bytes, &empty, 0, &mut text);
     assert_eq!((compared.refusal, compared.next), (0, 1 << n));
@@ -34,6 +37,9 @@ fn make_calls((n, on, free): &Table) {
         let form = &form[..written.length];
         assert_eq!(lent_calls::form_points(form, &mut points).refusal, 0);
         assert_eq!(lent_calls::form_rewrite(form, &mut text).refusal, 0);
+        let cut = &form[..form.len() - 1];
+        let refused = lent_calls::form_points(cut, &mut points);
+        assert_eq!((refused.refusal, refused.place), (21, cut.len()));
     }
     assert_eq!(lent_calls::report(&bytes, &mut text).refusal, 0);
 }

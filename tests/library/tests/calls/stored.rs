@@ -1,6 +1,6 @@
 //! Stored tables as bytes, whole and damaged in every way. Follows document 01,
-//! section "The written form". Of each list the share is made that the environment
-//! asks for.
+//! section "The written form", and document 02, No. 3. Of each list the share is made
+//! that the environment asks for.
 
 use glospruma::{MAX_POINTS, MAX_VARIABLES, TABLE_LENGTH};
 use library::settings::some;

@@ -1,6 +1,7 @@
 //! The expected reports in the folder `vectors`: the report call compared with
 //! them whole, and the reader with the analysis in all lines but those of the
-//! products. Follows document 01, section "The printed report".
+//! products. Follows document 01, section "The printed report", and document 02,
+//! No. 3.
 
 use crate::lent_calls;
 use crate::report::compare_text;
@@ -43,8 +44,10 @@ fn analysis_lines(n: usize, found: &Analysis, restriction: &[u16]) -> String {
 fn report(bytes: &[u8]) -> String {
     let [mut on, mut free, mut room] = [[0; MAX_POINTS]; 3];
     let read = lent_calls::read_table(bytes, &mut on, &mut free);
-    if read.refusal != 0 {
-        return format!("refused {}\n", read.refusal);
+    match read.refusal {
+        0 => {}
+        20..=27 => return format!("refused {} at {}\n", read.refusal, read.place),
+        _ => return format!("refused {}\n", read.refusal),
     }
     let n = read.variables;
     let (on, free) = (&on[..read.on_count], &free[..read.free_count]);

@@ -1,7 +1,8 @@
 //! Demand 1 is said of the running calls: every public call has its line in
 //! `Demand1`, and what that line says is returned, and stands in each room
-//! afterwards, are the very terms of the call's contract. And the numbers that a
-//! refused answer has as 0 are all its numbers but the refusal.
+//! afterwards, are the very terms of the call's contract. The numbers that a
+//! refused answer has as 0 are all its numbers but the refusal and its place, and
+//! the place is told of every answer that has one.
 
 use crate::names::{defined_in, read};
 use std::collections::BTreeMap;
@@ -171,8 +172,8 @@ fn fields(name: &str) -> Vec<String> {
     names.map(str::to_string).collect()
 }
 
-/// The numbers that are left out where all numbers of an answer but its refusal are
-/// listed.
+/// The numbers that are left out where all numbers of an answer but its refusal and
+/// its place are listed.
 fn left_out(demand: &str) -> Vec<String> {
     let mut missing = Vec::new();
     for part in demand.split("\nabbrev pub ").skip(1) {
@@ -194,7 +195,9 @@ fn left_out(demand: &str) -> Vec<String> {
             body.split_whitespace()
                 .any(|word| word.trim_end_matches(')') == format!(".{field}"))
         };
-        let others = fields.iter().filter(|field| *field != "refusal");
+        let others = fields
+            .iter()
+            .filter(|field| !["refusal", "place"].contains(&field.as_str()));
         missing.extend(
             others
                 .filter(|field| !listed(field))
@@ -202,6 +205,40 @@ fn left_out(demand: &str) -> Vec<String> {
         );
     }
     missing
+}
+
+/// The lists of all other numbers, each with whether its answer has a place, and
+/// whether the line of Demand 1 that names the list tells it.
+fn places(demand: &str) -> BTreeMap<String, (bool, bool)> {
+    let (_, fields_of_demand) = demand
+        .split_once("pub record Demand1 ")
+        .expect("the record");
+    let kinds = demand.split("\nabbrev pub ").filter_map(|part| {
+        let (name, kind) = part.lines().next()?.split_once(" : ")?;
+        Some((name.to_string(), kind.strip_suffix(" → List ℕ")?))
+    });
+    kinds
+        .filter_map(|(name, kind)| {
+            let line = fields_of_demand
+                .lines()
+                .find(|line| line.ends_with(&format!(" {name}")))?;
+            let has = fields(kind).contains(&"place".to_string());
+            Some((name, (has, line.contains("(r .place)"))))
+        })
+        .collect()
+}
+
+#[test]
+fn places_are_told() {
+    let demand = read(DEMAND);
+    let found = places(&demand);
+    assert_eq!(found.len(), contracts(&read(CODE)).len());
+    assert_eq!(found.values().filter(|(has, _)| *has).count(), 4);
+    for (name, (has, told)) in found {
+        assert_eq!(has, told, "{name}");
+    }
+    let other = demand.replace("(r .place)) compareOthers", "0) compareOthers");
+    assert_eq!(places(&other)["compareOthers"], (true, false));
 }
 
 #[test]

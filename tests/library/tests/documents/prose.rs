@@ -9,18 +9,16 @@ use crate::names::{defined_by, defined_in, modules_in, read};
 use crate::tables::quoted;
 use std::collections::BTreeSet;
 
-/// Words of that form that no crate defines: packages of Debian, variables of the
-/// environment, and names of the header and of the Rust package.
-const WORDS: [&str; 9] = [
+/// Words of that form that no crate and not the header defines: packages of Debian,
+/// variables of the environment, and names of the Rust package.
+const WORDS: [&str; 7] = [
     "berkeley-abc",
     "cargo-web",
     "GLOSPRUMA_CASES",
     "GLOSPRUMA_LIB_DIR",
     "GLOSPRUMA_SEED",
     "GLOSPRUMA_SHARE",
-    "GLOSPRUMA_VERSION",
     "VERSION",
-    "glospruma_refusal_text",
 ];
 
 /// The modules that compare the calls with the reference, by their files.
@@ -44,7 +42,16 @@ fn all_names() -> BTreeSet<String> {
     names.extend(crates::names());
     names.extend(modules_in(TESTS));
     names.extend(WORDS.map(str::to_string));
+    names.extend(header_names());
     names
+}
+
+/// The names that the header declares: structs, functions, constants and numbers.
+fn header_names() -> BTreeSet<String> {
+    let header = read("include/glospruma.h");
+    let words = header.split(|letter: char| !letter.is_ascii_alphanumeric() && letter != '_');
+    let declared = |word: &&str| word.starts_with("glospruma_") || word.starts_with("GLOSPRUMA_");
+    words.filter(declared).map(str::to_string).collect()
 }
 
 /// The names of a text that nothing defines.

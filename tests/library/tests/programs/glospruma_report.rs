@@ -66,7 +66,8 @@ fn tables_of_all_sizes() {
     }
 }
 
-/// The longest table is read whole; with a byte after it, or many, it is refused.
+/// The longest table is read whole; with a byte after it, or many, it is refused at
+/// the first of them (document 02, No. 3).
 #[test]
 fn longer_inputs() {
     let longest = stored(&generate::table_of(MAX_VARIABLES, |_| true));
@@ -74,6 +75,6 @@ fn longer_inputs() {
     compare(&longest);
     for more in [1, 2, 3, 1000, 1 << 20] {
         let bytes = [&longest[..], &vec![0x45; more]].concat();
-        assert_eq!(compare(&bytes), "refused 8\n".len());
+        assert_eq!(compare(&bytes), "refused 26 at 12293\n".len());
     }
 }

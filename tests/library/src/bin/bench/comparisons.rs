@@ -1,10 +1,12 @@
-//! Times of laying two stored tables side by side. Follows document 02, No. 1.
+//! Times of laying two stored tables side by side. Follows document 02, No. 1 and
+//! No. 3.
 
 use crate::measure;
 use crate::plain;
 use crate::{random_tables, VARIABLES};
 use glospruma::COMPARISON_ROOM;
 use library::Comparison;
+use reference::generate;
 use reference::table::{self, Table};
 use std::hint::black_box;
 
@@ -41,8 +43,20 @@ fn comparison(title: &str, pairs: &[Pair]) {
     );
 }
 
+/// Both sides refuse a damaged table with the same number and place.
+fn assert_refused_alike() {
+    let whole = table::write_stored(2, &[0, 3], &[1]);
+    let damaged = generate::cuts(&whole).chain(generate::every_changed_byte(&whole));
+    for bytes in damaged.chain(generate::extensions(&whole)) {
+        let pair = (bytes, whole.clone());
+        let answer = make(library::compare, &pair, &mut []);
+        assert_eq!(answer, make(plain::compare, &pair, &mut []), "{pair:X?}");
+    }
+}
+
 /// Times comparisons of tables of twelve variables.
 pub fn comparisons() {
+    assert_refused_alike();
     let points: Vec<u16> = (0..1 << VARIABLES).collect();
     let on = (VARIABLES, points.clone(), vec![]);
     let free = (VARIABLES, vec![], points);

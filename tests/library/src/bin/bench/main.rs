@@ -8,6 +8,7 @@ mod comparisons;
 mod forms;
 mod measure;
 mod plain;
+mod readings;
 
 use glospruma::MAX_POINTS;
 use library::{Affine, Analysis, Completion, Listed};
@@ -69,10 +70,13 @@ fn linear_space(title: &str, tables: &[Table]) {
     );
 }
 
+/// Whether a point is on.
+type IsOn = fn(u16) -> bool;
+
 /// Times the linear space call on functions of twelve variables.
 fn linear_spaces() {
     linear_space("n 12, random", &random_tables(50, 0));
-    let cases: [(&str, fn(u16) -> bool); 7] = [
+    let cases: [(&str, IsOn); 7] = [
         ("on 4095 alone", |point| point == LAST),
         ("x1", |point| point >= X1),
         ("x1 but for 4095", |point| point >= X1 && point != LAST),
@@ -219,4 +223,5 @@ fn main() {
     listings();
     forms::forms();
     comparisons::comparisons();
+    readings::readings();
 }

@@ -1,7 +1,7 @@
 //! The call that lays two stored tables side by side, in plain Rust: a mark to each
-//! point of either table, and a walk along both. Follows document 02, No. 1.
+//! point of either table, and a walk along both. Follows document 02, No. 1 and No. 3.
 
-use super::read_table::{read_records, KIND_ON};
+use super::read_table::{read_records, Refused, KIND_ON};
 use glospruma::{DIFFERENCE_LENGTH, MAX_POINTS};
 use library::Comparison;
 
@@ -9,7 +9,7 @@ use library::Comparison;
 type Marks = [u8; MAX_POINTS];
 
 /// The number of variables and the marks of a stored table.
-fn marks_of(bytes: &[u8]) -> Result<(usize, Marks), u8> {
+fn marks_of(bytes: &[u8]) -> Result<(usize, Marks), Refused> {
     let mut marks = [0; MAX_POINTS];
     let n = read_records(bytes, |kind, point| {
         marks[usize::from(point)] = if kind == KIND_ON { 1 } else { 2 };
@@ -35,14 +35,19 @@ fn write(left: &[u8], right: &[u8], first: usize, room: &mut [u8]) -> (usize, us
     (records, left.len())
 }
 
-fn try_compare(left: &[u8], right: &[u8], first: usize, room: &mut [u8]) -> Result<Comparison, u8> {
+fn try_compare(
+    left: &[u8],
+    right: &[u8],
+    first: usize,
+    room: &mut [u8],
+) -> Result<Comparison, Refused> {
     let (n, left) = marks_of(left)?;
     let (other, right) = marks_of(right)?;
     if n != other {
-        return Err(10);
+        return Err((10, 0));
     }
     if first > 1 << n {
-        return Err(11);
+        return Err((11, 0));
     }
     let (left, right) = (&left[..1 << n], &right[..1 << n]);
     let differing = left.iter().zip(right).filter(|(left, right)| left != right);
@@ -50,6 +55,7 @@ fn try_compare(left: &[u8], right: &[u8], first: usize, room: &mut [u8]) -> Resu
     let (records, next) = write(left, right, first, room);
     Ok(Comparison {
         refusal: 0,
+        place: 0,
         records,
         next,
         total,
@@ -58,8 +64,9 @@ fn try_compare(left: &[u8], right: &[u8], first: usize, room: &mut [u8]) -> Resu
 
 /// The call.
 pub fn compare(left: &[u8], right: &[u8], first: usize, room: &mut [u8]) -> Comparison {
-    try_compare(left, right, first, room).unwrap_or_else(|refusal| Comparison {
+    try_compare(left, right, first, room).unwrap_or_else(|(refusal, place)| Comparison {
         refusal,
+        place,
         ..Comparison::default()
     })
 }

@@ -31,5 +31,6 @@ pub use compare::compare;
 pub use complete::complete;
 pub use linear_space::linear_space;
 pub use list_primes::list_primes;
+pub use read_table::read_into_rooms;
 pub use report::report;
 pub use write_form::write_form;

@@ -1,11 +1,11 @@
 //! The report call in plain Rust. Follows document 01, section "The printed
-//! report".
+//! report", and document 02, No. 3.
 
 use super::analyse::{restriction, variables};
 use super::basis::leads;
 use super::complete::completed;
 use super::products::{products, Product};
-use super::read_table::read_table;
+use super::read_table::{read_table, Refused};
 use super::text;
 use library::{Report, ShortList};
 
@@ -36,10 +36,11 @@ fn product_line(lines: &mut Vec<u8>, n: usize, Product { constants, masks }: &Pr
     lines.push(b'\n');
 }
 
-/// The lines for an accepted table, or the number for a refused one.
-fn try_lines(bytes: &[u8], lines: &mut Vec<u8>) -> Result<(), u8> {
+/// The lines for an accepted table, or number and place for a refused one.
+fn try_lines(bytes: &[u8], lines: &mut Vec<u8>) -> Result<(), Refused> {
+    let without_place = |refusal| (refusal, 0);
     let (n, on, free) = read_table(bytes)?;
-    let completed = completed(n, &on, &free)?;
+    let completed = completed(n, &on, &free).map_err(without_place)?;
     let leads = leads(&completed.basis);
     let (canonical, equations) = variables(n, &completed.basis, leads);
     text::number(lines, b"variables ", n);
@@ -51,7 +52,7 @@ fn try_lines(bytes: &[u8], lines: &mut Vec<u8>) -> Result<(), u8> {
     equation_lines(lines, n, &equations);
     let points = restriction(n, &completed.flags, leads);
     text::numbers_line(lines, b"restriction", points);
-    for product in products(n, &completed, &equations)? {
+    for product in products(n, &completed, &equations).map_err(without_place)? {
         product_line(lines, n, &product);
     }
     Ok(())
@@ -60,8 +61,11 @@ fn try_lines(bytes: &[u8], lines: &mut Vec<u8>) -> Result<(), u8> {
 /// The call.
 pub fn report(bytes: &[u8], room: &mut [u8]) -> Report {
     let mut lines = Vec::with_capacity(USUAL_LENGTH);
-    if let Err(refusal) = try_lines(bytes, &mut lines) {
+    if let Err((refusal, place)) = try_lines(bytes, &mut lines) {
         text::number(&mut lines, b"refused ", usize::from(refusal));
+        if refusal >= 20 {
+            text::number(&mut lines, b" at ", place);
+        }
         lines.push(b'\n');
     }
     let length = lines.len();
