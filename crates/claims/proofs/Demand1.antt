@@ -1,14 +1,14 @@
 -- Demand 1 holds: one law about any call that decides by its tests, and a line for each call. Read next: FormBytes.
 use mathlib.Core.Path.{_≡_, refl, sym, ap, _∙_, subst}
 use mathlib.Core.Bool.{Bool, true, false, cond}
-use mathlib.Core.Logic.{_≢_, inl, inr}
+use mathlib.Core.Logic.{_≢_}
 use mathlib.Core.List.{List, [], _∷_, map}
 use Prim.Native.Nat.{ℕ}
 use native.Mathlib.Decide.{ℕ-discrete}
 use lib.Dec.{eqb}
 use lib.ListN.{length}
 use borrow.Author.Tests.{eqb-true, eq-eqb, ne-eqb}
-use Rattle.gf2.specs.Finite.{Mem, holds}
+use Rattle.gf2.specs.Finite.{holds}
 use Rattle.gf2.proofs.Logic.{and-l, and-r}
 use Rattle.table.specs.declared.Fault.{Fault}
 use Rattle.table.specs.Refusal.{Test, hasPlace, firstFault, firstPlace, faultAt, Numbered}
@@ -24,6 +24,7 @@ use Rattle.analysis.specs.Spaces.{linearSpaceCall, linearSpaceAnswer, completeC
 use Rattle.analysis.specs.Affine.{affineCall, affineAnswer, affineAfter}
 use Rattle.form_calls.specs.Reading.{pointsCall, pointsAnswer, pointsAfter, rewriteCall, rewriteAnswer, rewriteAfter}
 use Rattle.product.specs.Product.{every}
+use Rattle.product.proofs.Product.{every-is}
 use Rattle.cubes.specs.Lists.{keep}
 use Rattle.cubes.specs.Listing.{listingCall, listingAnswer, listingAfter}
 use Rattle.listing.specs.Answers.{callOf}
@@ -41,10 +42,6 @@ placesSound ts = every soundPlace ts ≡ true
 -- No test has a place.
 abbrev placesNone : List Test → Type 0
 placesNone ts = every (λ t. eqb (t .place) 0) ts ≡ true
-
-every-mem : (p : Test → Bool) (ts : List Test) → every p ts ≡ true → (t : Test) → Mem t ts → p t ≡ true
-every-mem p (u ∷ ts) e t (inl q) = ap p q ∙ and-l (p u) (every p ts) e
-every-mem p (u ∷ ts) e t (inr m) = every-mem p ts (and-r (p u) (every p ts) e) t m
 
 -- So such a call gives none.
 no-places : (ts : List Test) → placesNone ts → 0 ≡ firstPlace ts
@@ -68,7 +65,7 @@ module _ {A : Type 0} (fixed numbers : List ℕ) (fault : A → Fault) (others :
     order = order;
     exact = decide-exact number (d .tests) (d .accepted) (d .refused) numbered-so none-number given-number;
     placed = λ k first. place ∙ place-first (d .tests) k first;
-    no-place = λ e. place ∙ place-zero (d .tests) (every-mem soundPlace (d .tests) sound) (ap hasPlace (sym refusal) ∙ e);
+    no-place = λ e. place ∙ place-zero (d .tests) (every-is soundPlace (d .tests) .0 sound) (ap hasPlace (sym refusal) ∙ e);
     accepts = λ e. let f = sym refusal ∙ e in (decide-accepted (d .tests) (d .accepted) (d .refused) f, after ∙ rw (eq-eqb (firstFault (d .tests)) 0 f));
     refuses = λ n.
         let f : firstFault (d .tests) ≢ 0 = λ z. n (refusal ∙ z) in (

@@ -21,6 +21,7 @@ use Rattle.records.proofs.Numbers.{is-fault}
 use Rattle.records.proofs.Places.{fault-place}
 use Rattle.records.proofs.Ruling.{walkRules, rank}
 use Rattle.records.proofs.Paths.{FirstAt, Found, broken, missing, laid}
+use Rattle.cubes.proofs.Lists.{mem-append}
 use Rattle.claims.specs.Faults.{FaultOf, FirstFault, Begun, Tells}
 
 -- Every fault of a walk has a number with a place.
@@ -154,11 +155,7 @@ module _ (rules : Rules) (Encodes : List ℕ → Type 0) (walk : List ℕ → Wa
   -- ---- what stands before it, and what after it
 
   front-bytes : (front rest bytes : List ℕ) → bytes ≡ front ++ rest → Bytes bytes → Bytes front
-  front-bytes front rest bytes e b x m = b x (subst (Mem x) (sym e) (mem-front front rest x m))
-    where
-      mem-front : (l k : List ℕ) (x : ℕ) → Mem x l → Mem x (l ++ k)
-      mem-front (y ∷ l) k x (inl q) = inl q
-      mem-front (y ∷ l) k x (inr i) = inr (mem-front l k x i)
+  front-bytes front rest bytes e b x m = b x (subst (Mem x) (sym e) (mem-append front rest x (inl m)))
 
   both-bytes : (front more : List ℕ) → Bytes front → Bytes more → Bytes (front ++ more)
   both-bytes [] more a b x m = b x m

@@ -14,7 +14,7 @@ use lib.Seq.{take-at, drop-at, length-take-le}
 use borrow.Author.Tests.{eq-eqb, le-leb, lt-leb, leb-true, leb-false}
 use Rattle.gf2.specs.Finite.{Mem}
 use Rattle.gf2.proofs.Logic.{clash}
-use Rattle.gf2.proofs.Finite.{append-mem}
+use Rattle.gf2.proofs.Finite.{mem-map, map-mem, append-mem}
 use Rattle.table.specs.Refusal.{Test, testAt, bytesMissingFault, bytesAfterFault}
 use Rattle.records.specs.declared.Kind.{Kind}
 use Rattle.records.specs.declared.Kind.the-variants.{Variables, Product, Factor, End, On, Free}
@@ -43,15 +43,6 @@ number-few (NotCanonical place) = omega arith
 number-few (WrongCount place) = omega arith
 number-few (After place) = omega arith
 number-few (TooMany place) = omega arith
-
--- The tests of flags apply where the flags do.
-flag-applies : (fs : List Flag) (f : Flag) → Mem f fs → Mem (testOf f) (map testOf fs)
-flag-applies (g ∷ fs) f (inl e) = inl (ap testOf e)
-flag-applies (g ∷ fs) f (inr m) = inr (flag-applies fs f m)
-
-applies-flag : (fs : List Flag) (t : Test) → Mem t (map testOf fs) → (f : Flag) × Mem f fs × (t ≡ testOf f)
-applies-flag (g ∷ fs) t (inl e) = (g, inl refl, e)
-applies-flag (g ∷ fs) t (inr m) = let h = applies-flag fs t m in (h .0, inr (h .1), h .2)
 
 module _ (rules : Rules) where
   -- The walk from the place after some records on.
@@ -134,8 +125,8 @@ module _ (rules : Rules) where
         → (t : Test) → Mem t (faultsAfter rules before (recordBytes r ++ y)) → t .applies ≡ true → ⊥
     none-record k b y t m a =
         elim (append-mem (map testOf atKind) (map testOf atBody) t (subst (Mem t) (tests-record y) m)) [
-          | inl i ↦ let h = applies-flag atKind t i in clash a (ap (λ (u : Test). u .applies) (h .2) ∙ k (h .0) (h .1))
-          | inr i ↦ let h = applies-flag atBody t i in clash a (ap (λ (u : Test). u .applies) (h .2) ∙ b (h .0) (h .1))
+          | inl i ↦ let h = map-mem testOf atKind t i in clash a (ap (λ (u : Test). u .applies) (h .2) ∙ k (h .0) (h .1))
+          | inr i ↦ let h = map-mem testOf atBody t i in clash a (ap (λ (u : Test). u .applies) (h .2) ∙ b (h .0) (h .1))
         ]
 
     -- It is passed, and lies behind.
@@ -231,10 +222,10 @@ module _ (rules : Rules) where
           let ts = kindFaults rules before here head in
           let us = bodyOrMissing rules before here head rest in
           let given : Applies (faultsAfter rules before (byte ∷ rest)) (faultNumber w) (faultPlace w) =
-          record { found = testOf f; listed = mem-left ts us (testOf f) (flag-applies (kindFlags rules before here head) f m); applies = a; numbered = refl; placed = refl } in
+          record { found = testOf f; listed = mem-left ts us (testOf f) (mem-map testOf (kindFlags rules before here head) f m); applies = a; numbered = refl; placed = refl } in
           let least : (t : Test) → Mem t (ts ++ us) → t .applies ≡ true → walkRank w ≤ rank (t .number) (t .place) =
           λ t k b. elim (append-mem ts us t k) [
-            | inl i ↦ let g = applies-flag (kindFlags rules before here head) t i in subst (λ (u : Test). walkRank w ≤ rank (u .number) (u .place)) (sym (g .2)) (l (g .0) (g .1) (sym (ap (λ (u : Test). u .applies) (g .2)) ∙ b))
+            | inl i ↦ let g = map-mem testOf (kindFlags rules before here head) t i in subst (λ (u : Test). walkRank w ≤ rank (u .number) (u .place)) (sym (g .2)) (l (g .0) (g .1) (sym (ap (λ (u : Test). u .applies) (g .2)) ∙ b))
             | inr i ↦ let h = rest-place rules before here head rest t i in omega (arith, few, facts .0, h .there, h .numbered)
           ] in
           rw (s _)
@@ -258,7 +249,7 @@ module _ (rules : Rules) where
         record { found = testAt bytesMissingFault (here + 1 + length rest) true; listed = mem-right ts us _ (inl refl); applies = refl; numbered = refl; placed = ends } in
         let least : (t : Test) → Mem t (ts ++ us) → t .applies ≡ true → rank bytesMissingFault (here + length (byte ∷ rest)) ≤ rank (t .number) (t .place) =
         λ t m a. elim (append-mem ts us t m) [
-          | inl i ↦ let g = applies-flag (kindFlags rules before here (known kind)) t i in clash a (ap (λ (u : Test). u .applies) (g .2) ∙ none (g .0) (g .1))
+          | inl i ↦ let g = map-mem testOf (kindFlags rules before here (known kind)) t i in clash a (ap (λ (u : Test). u .applies) (g .2) ∙ none (g .0) (g .1))
           | inr (inl e) ↦ rw e (omega arith)
           | inr (inr e) ↦ absurd e
         ] in
@@ -307,11 +298,11 @@ module _ (rules : Rules) where
           let us = map testOf (atBody before r v) in
           let tests = tests-record before r v more in
           let given : Applies (ts ++ us) (faultNumber w) (faultPlace w) =
-          record { found = testOf f; listed = mem-right ts us (testOf f) (flag-applies (atBody before r v) f m); applies = a; numbered = refl; placed = refl } in
+          record { found = testOf f; listed = mem-right ts us (testOf f) (mem-map testOf (atBody before r v) f m); applies = a; numbered = refl; placed = refl } in
           let least : (t : Test) → Mem t (ts ++ us) → t .applies ≡ true → walkRank w ≤ rank (t .number) (t .place) =
           λ t k b. elim (append-mem ts us t k) [
-            | inl i ↦ let g = applies-flag (atKind before r v) t i in clash b (ap (λ (u : Test). u .applies) (g .2) ∙ none (g .0) (g .1))
-            | inr i ↦ let g = applies-flag (atBody before r v) t i in subst (λ (u : Test). walkRank w ≤ rank (u .number) (u .place)) (sym (g .2)) (l (g .0) (g .1) (sym (ap (λ (u : Test). u .applies) (g .2)) ∙ b))
+            | inl i ↦ let g = map-mem testOf (atKind before r v) t i in clash b (ap (λ (u : Test). u .applies) (g .2) ∙ none (g .0) (g .1))
+            | inr i ↦ let g = map-mem testOf (atBody before r v) t i in subst (λ (u : Test). walkRank w ≤ rank (u .number) (u .place)) (sym (g .2)) (l (g .0) (g .1) (sym (ap (λ (u : Test). u .applies) (g .2)) ∙ b))
           ] in
           let step : (y : List ℕ) → ruleStep rules before (kindByte (r .kind)) here (r .body ++ y) ≡ Stop w = λ y. step-record before r v y ∙ goes _ ∙ s _ in
           let end : faultEnd (faultNumber w) (faultPlace w) ≡ here + length (recordBytes r) = omega (arith, facts .1, v) in
