@@ -43,12 +43,14 @@ extern "C" {
 #endif
 
 /* The version of this header and of the library, as in CHANGELOG.md. */
-#define GLOSPRUMA_VERSION "0.4.0"
+#define GLOSPRUMA_VERSION "0.5.0"
 
-/* The largest number of variables, of points of a table, and of variables of a listing; the bytes of the longest stored table. */
+/* The largest number of variables, of points of a table, of variables of a listing, and of variables for which free points are used by the largest
+ * space; the bytes of the longest stored table. */
 #define GLOSPRUMA_MAX_VARIABLES 12
 #define GLOSPRUMA_MAX_POINTS 4096
 #define GLOSPRUMA_MAX_LISTED 6
+#define GLOSPRUMA_MAX_SEARCHED 8
 #define GLOSPRUMA_TABLE_LENGTH 12293
 
 /* Bytes of room that always suffice: for the form written for a table, for any form that can be read, and for a report. For points,
@@ -198,11 +200,13 @@ typedef struct {
     uint8_t refusal;
     size_t count;  /* points written */
     size_t degree; /* of the completed function */
-    size_t k0;     /* the degree with all free points off */
-    size_t k1;     /* the degree with all free points on */
+    size_t k0;     /* the degree with all free points off; the degree is never below it */
+    size_t k1;     /* the degree with all free points on; the degree is never below it */
 } glospruma_completion;
 
-/* The completed function's on points, rising, into the room. Refusals 1, 2, 3, 4; 7. */
+/* The completed function's on points, rising, into the room. Up to GLOSPRUMA_MAX_SEARCHED variables they are every on point XOR every vector of the
+ * largest space of vectors that take each on point to an on or free point; of several such spaces the one whose reduced basis comes first. For more
+ * variables free points are all on if that has the larger degree, and otherwise all off. Refusals 1, 2, 3, 4; 7. */
 glospruma_completion glospruma_complete(size_t n, const uint16_t *on, size_t on_length, const uint16_t *free_points, size_t free_length,
                                         uint16_t *room, size_t room_length);
 
@@ -277,8 +281,9 @@ typedef struct {
     size_t length; /* bytes of text written */
 } glospruma_report_written;
 
-/* The printed report of a stored table, as text into the room, without a 0 byte after it. A table that is refused is reported by the line
- * `refused N`, or `refused N at PLACE` where a place goes with the number; the call itself is refused for its room alone. Refusal 7. */
+/* The printed report of a stored table, as text into the room, without a 0 byte after it. The degree line ends in ` simple` where the table has more
+ * than GLOSPRUMA_MAX_SEARCHED variables and free points. A table that is refused is reported by the line `refused N`, or `refused N at PLACE` where a
+ * place goes with the number; the call itself is refused for its room alone. Refusal 7. */
 glospruma_report_written glospruma_report(const uint8_t *bytes, size_t bytes_length, uint8_t *room, size_t room_length);
 
 #ifdef __cplusplus

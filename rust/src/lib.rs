@@ -108,6 +108,10 @@ pub const MAX_POINTS: usize = 4096;
 /// The largest number of variables of a listing.
 pub const MAX_LISTED: usize = 6;
 
+/// The largest number of variables for which free points are used by the largest
+/// space; see [`complete`].
+pub const MAX_SEARCHED: usize = 8;
+
 /// Bytes of the longest stored table; a longer input is refused.
 pub const TABLE_LENGTH: usize = 12_293;
 

@@ -39,7 +39,7 @@ pub fn linear_space(n: usize, on: &[u16]) -> Result<LinearSpace, Refusal> {
 pub struct Completion<'a> {
     /// Its on points, rising.
     pub points: &'a [u16],
-    /// Its degree.
+    /// Its degree, which is never below k0 nor k1.
     pub degree: usize,
     /// The degree k0, with all free points off.
     pub k0: usize,
@@ -47,8 +47,12 @@ pub struct Completion<'a> {
     pub k1: usize,
 }
 
-/// Completes a table; the on points of the completed function go to the room.
-/// Refusals [`Variables`](Refusal::Variables), [`Point`](Refusal::Point),
+/// Completes a table; the on points of the completed function go to the room. Up to
+/// [`MAX_SEARCHED`](crate::MAX_SEARCHED) variables they are every on point XOR every
+/// vector of the largest space of vectors that take each on point to an on or free
+/// point; of several such spaces the one whose reduced basis comes first. For more
+/// variables free points are all on if that has the larger degree, and otherwise all
+/// off. Refusals [`Variables`](Refusal::Variables), [`Point`](Refusal::Point),
 /// [`Order`](Refusal::Order), [`Shared`](Refusal::Shared), then
 /// [`Room`](Refusal::Room).
 ///
@@ -56,8 +60,9 @@ pub struct Completion<'a> {
 /// use glospruma::{complete, Refusal};
 ///
 /// let mut room = [0; 4];
-/// let found = complete(2, &[0], &[1], &mut room)?;
-/// assert_eq!((found.points, found.k0, found.k1), (&[0, 1][..], 0, 1));
+/// let found = complete(2, &[0], &[1, 2], &mut room)?;
+/// assert_eq!((found.points, found.degree), (&[0, 1][..], 1));
+/// assert_eq!((found.k0, found.k1), (0, 0));
 /// assert_eq!(complete(2, &[0], &[0], &mut room), Err(Refusal::Shared));
 /// # Ok::<(), Refusal>(())
 /// ```

@@ -57,9 +57,11 @@ pub struct Report<'a> {
     pub text: &'a str,
 }
 
-/// Writes the report of a stored table to the room. A table that is refused has
-/// the report `refused N`, or `refused N at PLACE` where its bytes are at fault; the
-/// call itself is refused with [`Room`](Refusal::Room) alone.
+/// Writes the report of a stored table to the room. Its degree line ends in ` simple`
+/// where the table has more than [`MAX_SEARCHED`](crate::MAX_SEARCHED) variables and
+/// free points. A table that is refused has the report `refused N`, or
+/// `refused N at PLACE` where its bytes are at fault; the call itself is refused with
+/// [`Room`](Refusal::Room) alone.
 ///
 /// ```
 /// use glospruma::{report, Refusal, REPORT_ROOM};

@@ -1,5 +1,5 @@
-//! Document 01's examples through the safe calls, with the answers that it
-//! prints; refusals of each of its numbers, after which lent memory is as it was;
+//! Document 01's examples through the safe calls, with the answers that it or
+//! document 02, No. 4, prints; refusals of each of its numbers, after which lent memory is as it was;
 //! and the layout of the numbers that calls return. Every room is as long as its
 //! answer, or a little longer, so that a tool that watches memory sees each
 //! access beyond. Follows document 01, section "Table of proved examples".
@@ -185,12 +185,33 @@ fn p7_smallest_affine_space() {
 }
 
 #[test]
-fn p8_degrees_of_both_completions() {
-    let mut room = vec![9; 2];
+fn p8_a_degree_above_both() {
+    let mut room = vec![9; 3];
     let found = complete(2, &[0], &[1, 2], &mut room).expect("accepted");
-    assert_eq!((found.degree, found.k0, found.k1), (0, 0, 0));
-    assert_eq!(found.points, [0]);
-    assert_eq!(room[1], 9);
+    assert_eq!((found.degree, found.k0, found.k1), (1, 0, 0));
+    assert_eq!(found.points, [0, 1]);
+    assert_eq!(room[2], 9);
+    let mut room = vec![9; 1];
+    let found = analyse(2, &[0], &[1, 2], &mut room).expect("accepted");
+    assert_eq!((found.degree, found.basis.as_slice()), (1, &[1][..]));
+    assert_eq!(found.restriction, [0]);
+}
+
+/// From nine variables free points are completed in the simple way, and the
+/// report's degree says so.
+#[test]
+fn eight_and_nine_variables() {
+    for (n, degree, points) in [(8, 1, &[0, 1][..]), (9, 0, &[0])] {
+        let mut room = vec![9; points.len()];
+        let found = complete(n, &[0], &[1, 2], &mut room).expect("accepted");
+        assert_eq!((found.degree, found.points), (degree, points));
+    }
+    for (n, line) in [(8, "degree 8"), (9, "degree 9 simple")] {
+        let bytes = [0x4E, n, 0x44, 0, 0, 0x45, 1, 0];
+        let mut room = vec![9; 200];
+        let found = report(&bytes, &mut room).expect("accepted");
+        assert_eq!(found.text.lines().nth(2), Some(line));
+    }
 }
 
 #[test]

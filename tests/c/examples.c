@@ -304,14 +304,42 @@ static void p7(void) {
     free(on.points);
 }
 
+/* With the answers of document 02, No. 4. */
 static void p8(void) {
-    static const uint16_t on_points[] = {0}, free_points[] = {1, 2};
-    points on = point_list(on_points, 1), others = point_list(free_points, 2), room = point_room(3);
+    static const uint16_t on_points[] = {0}, free_points[] = {1, 2}, completed[] = {0, 1}, one[] = {1}, two[] = {2};
+    static const uint8_t form[] = {0x4E, 2, 0x50, 0x58, 0, 2, 0, 0x45, 1, 0};
+    points on = point_list(on_points, 1), others = point_list(free_points, 2), room = point_room(3), restriction = point_room(2);
+    bytes written = byte_room(sizeof form + 1);
     glospruma_completion found = glospruma_complete(2, on.points, on.length, others.points, others.length, room.points, room.length);
-    CHECK(found.refusal == GLOSPRUMA_ACCEPTED && found.count == 1 && found.degree == 0 && found.k0 == 0 && found.k1 == 0);
-    CHECK(points_are(room, on_points, 1));
+    glospruma_analysis analysis =
+        glospruma_analyse(2, on.points, on.length, others.points, others.length, restriction.points, restriction.length);
+    glospruma_form_written wrote =
+        glospruma_write_form(2, on.points, on.length, others.points, others.length, written.bytes, written.length);
+    CHECK(found.refusal == GLOSPRUMA_ACCEPTED && found.count == 2 && found.degree == 1 && found.k0 == 0 && found.k1 == 0);
+    CHECK(points_are(room, completed, 2));
+    CHECK(analysis.refusal == GLOSPRUMA_ACCEPTED && analysis.degree == 1 && analysis.count == 1);
+    CHECK(basis_is(&analysis.basis, one, 1) && list_is(&analysis.canonical, two, 1) && list_is(&analysis.equations, two, 1));
+    CHECK(points_are(restriction, on_points, 1));
+    CHECK(wrote.refusal == GLOSPRUMA_ACCEPTED && wrote.length == sizeof form && wrote.products == 1);
+    CHECK(bytes_are(written, form, sizeof form));
     free(on.points);
     free(others.points);
+}
+
+/* The report of a table of n variables with point 0 free and all others off. */
+static void check_free_report(uint8_t n, const char *expected) {
+    const uint8_t table[] = {0x4E, n, 0x44, 0, 0, 0x45, 1, 0};
+    bytes stored = byte_list(table, sizeof table), text = byte_room(strlen(expected));
+    glospruma_report_written report = glospruma_report(stored.bytes, stored.length, text.bytes, text.length);
+    CHECK(report.refusal == GLOSPRUMA_ACCEPTED && report.length == strlen(expected));
+    CHECK(bytes_are(text, (const uint8_t *)expected, strlen(expected)));
+    free(stored.bytes);
+}
+
+/* From nine variables free points are completed in the simple way (document 02, No. 4), and the degree says so. */
+static void simple_degree(void) {
+    check_free_report(8, "variables 8\non 0 free 1\ndegree 8\ncanonical 1 2 3 4 5 6 7 8\nrestriction -\n");
+    check_free_report(9, "variables 9\non 0 free 1\ndegree 9 simple\ncanonical 1 2 3 4 5 6 7 8 9\nrestriction -\n");
 }
 
 static void p9(void) {
@@ -773,6 +801,7 @@ static const named_case cases[] = {
     {"P6", p6},
     {"P7", p7},
     {"P8", p8},
+    {"a simple degree", simple_degree},
     {"P9", p9},
     {"two tables side by side", side_by_side},
     {"two tables side by side, in pieces", side_by_side_in_pieces},

@@ -8,8 +8,9 @@ use native.Mathlib.Decide.{ℕ-discrete}
 use lib.Dec.{eqb}
 use lib.ListN.{length}
 use borrow.Author.Tests.{eqb-true, eq-eqb, ne-eqb}
-use Rattle.gf2.specs.Finite.{holds}
+use Rattle.gf2.specs.Finite.{holds, every}
 use Rattle.gf2.proofs.Logic.{and-l, and-r}
+use Rattle.gf2.proofs.Finite.{every-is}
 use Rattle.table.specs.declared.Fault.{Fault}
 use Rattle.table.specs.Refusal.{Test, hasPlace, firstFault, firstPlace, faultAt, Numbered}
 use Rattle.table.specs.Decision.{Decision, answerOf, afterOf}
@@ -23,8 +24,6 @@ use Rattle.compare.specs.Answer.{comparePlace, compareCall, compareAnswer, comp
 use Rattle.analysis.specs.Spaces.{linearSpaceCall, linearSpaceAnswer, completeCall, completeAnswer, completeAfter, analyseCall, analyseAnswer, analyseAfter}
 use Rattle.analysis.specs.Affine.{affineCall, affineAnswer, affineAfter}
 use Rattle.form_calls.specs.Reading.{pointsCall, pointsAnswer, pointsAfter, rewriteCall, rewriteAnswer, rewriteAfter}
-use Rattle.product.specs.Product.{every}
-use Rattle.product.proofs.Product.{every-is}
 use Rattle.cubes.specs.Lists.{keep}
 use Rattle.cubes.specs.Listing.{listingCall, listingAnswer, listingAfter}
 use Rattle.listing.specs.Answers.{callOf}

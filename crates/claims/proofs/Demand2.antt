@@ -3,7 +3,7 @@ use mathlib.Core.Path.{_≡_, refl, sym, ap, ap₂, _∙_, subst}
 use mathlib.Core.Bool.{Bool, true, false}
 use mathlib.Core.Logic.{_↔_}
 use mathlib.Core.List.{List, []}
-use Prim.Native.Nat.{ℕ, _+_, _-_, _^_, _≤_, _<_, max}
+use Prim.Native.Nat.{ℕ, _+_, _-_, _^_, _≤_, _<_}
 use native.Mathlib.Omega.{arith}
 use lib.ListN.{length, length-map}
 use lib.Bits.{xor-lt}
@@ -26,7 +26,7 @@ use Rattle.space.specs.Closure.{closed, linearSpace, degree}
 use Rattle.space.specs.Completion.{allOn, completed, completedPoints}
 use Rattle.space.specs.Restriction.{equations, values}
 use Rattle.space.proofs.Closure.{closed-at, closed-of, linear-reduced, linear-span, linear-below}
-use Rattle.space.proofs.Completion.{kept-on, kept-off, completed-rising, completed-points, completed-at, completed-degree}
+use Rattle.space.proofs.Completion.{kept-on, kept-off, completed-rising, completed-points, completed-at}
 use Rattle.space.proofs.Restriction.{restriction-at, restriction-rising, restriction-below, equations-length}
 use Rattle.form_calls.specs.declared.FormPoints.{FormPoints}
 use Rattle.form_calls.specs.declared.FormRewrite.{FormRewrite}
@@ -54,7 +54,7 @@ module _ (n : ℕ) (on free : List ℕ) (a : Accepted n on free) (r : Reported) 
   f = completed n on free
 
   -- The completed table as it is reported, below 2 ^ n.
-  on-at : (w : ℕ) → w < 2 ^ n → isOn r w ≡ f w
+  pub on-at : (w : ℕ) → w < 2 ^ n → isOn r w ≡ f w
   on-at w h = ap (λ (l : List ℕ). holds l w) (c .list) ∙ completed-at n on free w h
 
   points-in : (w : ℕ) → Mem w (r .points) → In n f w
@@ -77,7 +77,7 @@ module _ (n : ℕ) (on free : List ℕ) (a : Accepted n on free) (r : Reported) 
     apart = λ p l m. m;
   }
 
-  selected-degree : (g : ℕ → Bool) → linearSpaceAnswer n (select g (2 ^ n)) .degree ≡ degree n g
+  pub selected-degree : (g : ℕ → Bool) → linearSpaceAnswer n (select g (2 ^ n)) .degree ≡ degree n g
   unfolding degree
   selected-degree g =
       ap (λ (x : LinearSpace). x .degree) (space-gave n (select g (2 ^ n)) (selected-accepted n (a .some) (a .few) g)) ∙ ap length (selected-space n (a .some) (a .few) g)
@@ -92,7 +92,6 @@ module _ (n : ℕ) (on free : List ℕ) (a : Accepted n on free) (r : Reported) 
     count = ap (λ (x : Completion). x .count) (c .value) ∙ ap length (sym (c .list));
     all-off = ap (λ (x : Completion). x .k0) (c .value) ∙ sym (ap (λ (x : LinearSpace). x .degree) (space-gave n on alone));
     all-on = ap (λ (x : Completion). x .k1) (c .value) ∙ sym (selected-degree (allOn on free));
-    larger = ap (λ (x : Completion). x .degree) (c .value) ∙ completed-degree n on free ∙ sym (ap (λ (x : Completion). max (x .k0) (x .k1)) (c .value));
   }
 
   -- ---- its linear space
@@ -117,7 +116,7 @@ module _ (n : ℕ) (on free : List ℕ) (a : Accepted n on free) (r : Reported) 
   -- ---- what `analyse` reports
 
   module _ (g : Gave (r .analysis) (analyseAccepted n on free) (r .restriction) (completedRestriction n on free)) where
-    basis-told : vectorsOf (r .analysis .basis) ≡ linearSpace n f
+    pub basis-told : vectorsOf (r .analysis .basis) ≡ linearSpace n f
     basis-told = ap (λ (x : Analysis). vectorsOf (x .basis)) (g .value) ∙ vectors-back (linearSpace n f)
 
     masks-told : listed (r .analysis .equations) ≡ equations n (linearSpace n f)
@@ -186,15 +185,15 @@ module _ (n : ℕ) (on free : List ℕ) (lent : RoomsLent) where
   abbrev r : Reported
   r = reported n on free lent
 
-  table : r .completion .refusal ≡ 0 → Accepted n on free
+  pub table : r .completion .refusal ≡ 0 → Accepted n on free
   unfolding reported
   table = complete-table n on free (lent .completing)
 
-  completing : r .completion .refusal ≡ 0 → Gave (r .completion) (completeAccepted n on free) (r .points) (completedPoints n on free)
+  pub completing : r .completion .refusal ≡ 0 → Gave (r .completion) (completeAccepted n on free) (r .points) (completedPoints n on free)
   unfolding reported
   completing = complete-gave n on free (lent .completing)
 
-  analysing : r .analysis .refusal ≡ 0 → Gave (r .analysis) (analyseAccepted n on free) (r .restriction) (completedRestriction n on free)
+  pub analysing : r .analysis .refusal ≡ 0 → Gave (r .analysis) (analyseAccepted n on free) (r .restriction) (completedRestriction n on free)
   unfolding reported
   analysing = analyse-gave n on free (lent .analysing)
 
@@ -216,6 +215,14 @@ module _ (n : ℕ) (on free : List ℕ) (lent : RoomsLent) where
   spaced-degree : r .completion .refusal ≡ 0 → r .space .degree ≡ degree n (completed n on free)
   unfolding degree
   spaced-degree e = ap (λ (x : LinearSpace). x .degree) (spaced e) ∙ ap length (spaced-basis e)
+
+  -- The basis that `linear_space` returns, and the one that `analyse` returns.
+  pub spaced-vectors : r .completion .refusal ≡ 0 → vectorsOf (r .space .basis) ≡ linearSpace n (completed n on free)
+  spaced-vectors e =
+      ap (λ (x : LinearSpace). vectorsOf (x .basis)) (spaced e) ∙ vectors-back (linearSpace n (holds (completedPoints n on free))) ∙ spaced-basis e
+
+  pub analysed-vectors : r .analysis .refusal ≡ 0 → vectorsOf (r .analysis .basis) ≡ linearSpace n (completed n on free)
+  analysed-vectors g = ap (λ (x : Analysis). vectorsOf (x .basis)) (analysing g .value) ∙ vectors-back (linearSpace n (completed n on free))
 
   form-said : r .completion .refusal ≡ 0 → r .written .refusal ≡ 0 → FormSays n on free lent r
   unfolding reported
@@ -253,7 +260,7 @@ module _ (n : ℕ) (on free : List ℕ) (lent : RoomsLent) where
     accepted = λ e. ap (λ (x : LinearSpace). x .refusal) (spaced e);
     space = λ e.
         space-said n on free (table e) r (completing e) (vectorsOf (r .space .basis)) (r .space .degree)
-        (ap (λ (x : LinearSpace). vectorsOf (x .basis)) (spaced e) ∙ vectors-back (linearSpace n (holds (completedPoints n on free))) ∙ spaced-basis e) (spaced-degree e);
+        (spaced-vectors e) (spaced-degree e);
     degree = λ e. ap (λ (x : Completion). x .degree) (completing e .value) ∙ sym (spaced-degree e);
     analyse = λ e g. analyse-said n on free (table e) r (completing e) (analysing g);
     form = form-said;

@@ -1,5 +1,5 @@
--- Document 01, "Table of proved examples": P1 to P9 in one table under one statement, computed from the answers and rooms that the contracts of the
--- public calls name.
+-- Document 01, "Table of proved examples": P1 to P9, and three tables more for document 02, No. 4, in one table under one statement, computed from the
+-- answers and rooms that the contracts of the public calls name.
 use mathlib.Core.Path.{_≡_, refl}
 use mathlib.Core.List.{List, [], _∷_, map, flatMap}
 use Prim.Native.Nat.{ℕ}
@@ -12,8 +12,10 @@ use Rattle.basis.specs.Short.{listed}
 use Rattle.basis.specs.Reduced.{vectorsOf}
 use Rattle.table.specs.Refusal.{firstFault}
 use Rattle.table.specs.Table.{tableTests, badCount, outside, notAbove, unordered, shared}
+use Rattle.subspaces.specs.Spaces.{spacesOf, spacesFrom, largest}
+use Rattle.closure_set.specs.ClosureSet.{closes, closureSet, largestSpace, spread}
 use Rattle.space.specs.Closure.{closed, linearSpace, degree}
-use Rattle.space.specs.Completion.{allOn, completed, completedPoints}
+use Rattle.space.specs.Completion.{allOn, simplyCompleted, completed, completedPoints}
 use Rattle.space.specs.Restriction.{equation, equations, number, project, clean, restriction}
 use Rattle.space.specs.Affine.{directions, leastPoint, projection}
 use Rattle.form.specs.Encoding.{encodeFactors, encodeProducts, encodeForm}
@@ -94,7 +96,8 @@ pub sixRecords : List ℕ
 sixRecords =
     2 ∷ 2 ∷ 1 ∷ 4 ∷ 0 ∷ 0 ∷ 0 ∷ 0 ∷ (1 ∷ 2 ∷ 7 ∷ 0 ∷ 0 ∷ 0 ∷ 0 ∷ 0 ∷ (1 ∷ 3 ∷ 6 ∷ 0 ∷ 0 ∷ 0 ∷ 0 ∷ 0 ∷ (1 ∷ 5 ∷ 2 ∷ 0 ∷ 0 ∷ 0 ∷ 0 ∷ 0 ∷ (1 ∷ 5 ∷ 3 ∷ 0 ∷ 0 ∷ 0 ∷ 0 ∷ 0 ∷ []))))
 
--- P1 to P9, in order.
+-- P1 to P9, in order, P8 with document 02's answers; then the table of source 003, Examples 3 and 4; one with closure set 0 1 2 4 6, in which a space
+-- that grows by its least vector ends with one dimension; and one with 0 1 2 4 6 7, where bases compared from their last vector would give 2 4.
 pub examples : List Example
 examples =
     example (analyse 1 [] []) (analysis 0 1 (1 ∷ []) (1 ∷ []) [] [])
@@ -108,13 +111,18 @@ examples =
     ∷ example (write-form 4 five []) (form 0 2 fiveForm)
     ∷ example (list-primes 3 (2 ∷ 3 ∷ 5 ∷ 6 ∷ 7 ∷ []) [] 0) (records 0 51 51 5 sixRecords)
     ∷ example (affine 4 (2 ∷ 4 ∷ 6 ∷ 11 ∷ 13 ∷ [])) (space 0 0 3 (2 ∷ 4 ∷ 9 ∷ []) (1 ∷ 2 ∷ 3 ∷ 5 ∷ 6 ∷ []))
-    ∷ example (complete 2 (0 ∷ []) (1 ∷ 2 ∷ [])) (completion 0 0 0 0 (0 ∷ []))
+    ∷ example (complete 2 (0 ∷ []) (1 ∷ 2 ∷ [])) (completion 0 1 0 0 (0 ∷ 1 ∷ []))
+    ∷ example (analyse 2 (0 ∷ []) (1 ∷ 2 ∷ [])) (analysis 0 1 (1 ∷ []) (2 ∷ []) (2 ∷ []) (0 ∷ []))
+    ∷ example (write-form 2 (0 ∷ []) (1 ∷ 2 ∷ [])) (form 0 1 (0x4E ∷ 0x02 ∷ 0x50 ∷ 0x58 ∷ 0x00 ∷ 0x02 ∷ 0x00 ∷ 0x45 ∷ 0x01 ∷ 0x00 ∷ []))
     ∷ example (list-primes 2 [] (0 ∷ []) 0) (records 0 11 11 0 [])
     ∷ example (list-primes 2 [] (0 ∷ []) 11) (records 0 11 0 0 [])
     ∷ example (list-primes 2 [] (0 ∷ []) 12) (records 9 0 0 0 [])
+    ∷ example (analyse 4 five (0 ∷ 1 ∷ 2 ∷ 3 ∷ 11 ∷ [])) (analysis 0 2 (3 ∷ 8 ∷ []) (1 ∷ 3 ∷ []) (4 ∷ 3 ∷ []) (1 ∷ 2 ∷ 3 ∷ []))
+    ∷ example (complete 3 (0 ∷ []) (1 ∷ 2 ∷ 4 ∷ 6 ∷ [])) (completion 0 2 0 0 (0 ∷ 2 ∷ 4 ∷ 6 ∷ []))
+    ∷ example (complete 3 (0 ∷ []) (1 ∷ 2 ∷ 4 ∷ 6 ∷ 7 ∷ [])) (completion 0 2 0 1 (0 ∷ 1 ∷ 6 ∷ 7 ∷ []))
     ∷ []
 
 -- Each reply is the one expected.
 pub computed : map (λ e. reply (e .asked)) examples ≡ map (λ e. e .expected) examples
-unfolding examples example five fiveForm sixRecords reply completeAnswer completeAfter analyseAnswer analyseAfter affineAnswer affineAfter handedOver writeAnswer writeAfter formBytes formSizeFault completedPoints holds all select bit halvings lead oddIn odd clear reduce place join insert inserts reduces irreducible reducedBasis isLead placesAt firstFault tableTests badCount outside notAbove unordered shared closed linearSpace degree allOn completed equation equations number project clean restriction directions leastPoint projection encodeFactors encodeProducts encodeForm flatMap keep spans pointsOf bases candidatesOf candidatesFrom candidates everyPoint somePoint cannotGrow isPrime recordOf recordsOf listingFault passage listing listingAnswer listingAfter placeFactor canonicalProduct substituteMask substituteFactor substituteProduct primesOf covered firstHolding takenFor takenThrough chosen writtenProduct formOf writtenForm
+unfolding examples example five fiveForm sixRecords reply completeAnswer completeAfter analyseAnswer analyseAfter affineAnswer affineAfter handedOver writeAnswer writeAfter formBytes formSizeFault completedPoints holds all select bit halvings lead oddIn odd clear reduce place join insert inserts reduces irreducible reducedBasis isLead placesAt firstFault tableTests badCount outside notAbove unordered shared spacesOf spacesFrom largest closes closureSet largestSpace spread closed linearSpace degree allOn simplyCompleted completed equation equations number project clean restriction directions leastPoint projection encodeFactors encodeProducts encodeForm flatMap keep spans pointsOf bases candidatesOf candidatesFrom candidates everyPoint somePoint cannotGrow isPrime recordOf recordsOf listingFault passage listing listingAnswer listingAfter placeFactor canonicalProduct substituteMask substituteFactor substituteProduct primesOf covered firstHolding takenFor takenThrough chosen writtenProduct formOf writtenForm
 computed = refl

@@ -1,5 +1,5 @@
 -- What is claimed of the refusals 20 to 27, call by call: each call that reads bytes says what the walk over them found, and any other refusal has no place.
--- Read next: Bits.
+-- Read next: FreePoints.
 use mathlib.Core.Path.{_≡_, refl, sym, ap, _∙_, subst}
 use mathlib.Core.Bool.{Bool, true, false, cond, not, _&&_, _||_}
 use mathlib.Core.Logic.{inl, inr, _⊎_, _≢_}

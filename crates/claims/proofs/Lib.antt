@@ -7,6 +7,7 @@ pub mod Demand3
 pub mod Compared
 pub mod Faults
 pub mod FaultCalls
+pub mod FreePoints
 pub mod Bits
 pub mod Examples
 pub mod Rooms

@@ -6,7 +6,7 @@ use mathlib.Core.Path.{_≡_}
 use mathlib.Core.Bool.{Bool, true, false}
 use mathlib.Core.Logic.{_↔_}
 use mathlib.Core.List.{List}
-use Prim.Native.Nat.{ℕ, _+_, _-_, _*_, _^_, _≤_, _<_, max}
+use Prim.Native.Nat.{ℕ, _+_, _-_, _*_, _^_, _≤_, _<_}
 use lib.ListN.{length, take}
 use Rattle.gf2.specs.Bits.{_⊕_}
 use Rattle.gf2.specs.Finite.{Mem, holds, select, Rising}
@@ -87,17 +87,17 @@ isOn r w = holds (r .points) w
 
 -- `complete` was accepted.
 pub record CompleteSays (n : ℕ) (on free : List ℕ) (r : Reported) : Type 0 where
-  -- The completed table is that of document 01, "Points and spaces". Every point marked on is on; every other point that is not free is off.
+  -- The completed table is that of document 02, No. 4 (what is said of it there is `FreePoints`). Every point marked on is on; every other point that is
+  -- not free is off.
   pub completed : r .points ≡ completedPoints n on free
   pub marked-on : (w : ℕ) → Mem w on → isOn r w ≡ true
   pub marked-off : (w : ℕ) → (Mem w on → ⊥) → (Mem w free → ⊥) → isOn r w ≡ false
   pub rise : Rising (r .points)
   pub below : (w : ℕ) → Mem w (r .points) → w < 2 ^ n
   pub count : r .completion .count ≡ length (r .points)
-  -- k0 and k1 are the degrees that `linear_space` returns with all free points off and with all of them on; the degree is the larger one.
+  -- k0 and k1 are the degrees that `linear_space` returns with all free points off and with all of them on.
   pub all-off : r .completion .k0 ≡ linearSpaceAnswer n on .degree
   pub all-on : r .completion .k1 ≡ linearSpaceAnswer n (select (allOn on free) (2 ^ n)) .degree
-  pub larger : r .completion .degree ≡ max (r .completion .k0) (r .completion .k1)
 
 -- A basis and a degree that are reported of the completed table: the basis is reduced and spans exactly the vectors that can be XORed into every
 -- input without changing the output, and the degree is the number of its vectors.

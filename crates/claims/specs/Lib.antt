@@ -5,5 +5,6 @@ pub mod Demand2
 pub mod Demand3
 pub mod Compared
 pub mod Faults
+pub mod FreePoints
 pub mod Bits
 pub mod Rooms

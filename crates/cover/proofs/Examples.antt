@@ -7,8 +7,10 @@ use Rattle.gf2.specs.Bits.{bit, halvings, lead}
 use Rattle.gf2.specs.Finite.{holds, all, select}
 use Rattle.gf2.specs.Parity.{oddIn, odd}
 use Rattle.gf2.specs.Basis.{clear, reduce, reduces, irreducible, reducedBasis, isLead, placesAt}
+use Rattle.subspaces.specs.Spaces.{spacesOf, spacesFrom, largest}
+use Rattle.closure_set.specs.ClosureSet.{closes, closureSet, largestSpace, spread}
 use Rattle.space.specs.Closure.{closed, linearSpace, degree}
-use Rattle.space.specs.Completion.{allOn, completed}
+use Rattle.space.specs.Completion.{allOn, simplyCompleted, completed}
 use Rattle.space.specs.Restriction.{equation, equations, number, project, clean, restriction}
 use Rattle.product.specs.Product.{Factor, factor}
 use Rattle.cubes.specs.Lists.{keep}
@@ -60,5 +62,5 @@ examples = p1 ∷ p3 ∷ p4 ∷ p5 ∷ cancels ∷ []
 
 -- Each form is the one expected.
 pub computed : map (λ e. writtenForm (e .variables) (e .on) (e .free)) examples ≡ map (λ e. e .products) examples
-unfolding examples p1 p3 p4 p5 cancels bit halvings lead holds all select oddIn odd clear reduce reduces irreducible reducedBasis isLead placesAt closed linearSpace degree allOn completed equation equations number project clean restriction flatMap keep spans pointsOf bases candidatesOf candidatesFrom candidates everyPoint somePoint cannotGrow isPrime placeFactor canonicalProduct substituteMask substituteFactor substituteProduct primesOf covered firstHolding takenFor takenThrough chosen writtenProduct formOf writtenForm
+unfolding examples p1 p3 p4 p5 cancels bit halvings lead holds all select oddIn odd clear reduce reduces irreducible reducedBasis isLead placesAt closed linearSpace degree allOn spacesOf spacesFrom largest closes closureSet largestSpace spread simplyCompleted completed equation equations number project clean restriction flatMap keep spans pointsOf bases candidatesOf candidatesFrom candidates everyPoint somePoint cannotGrow isPrime placeFactor canonicalProduct substituteMask substituteFactor substituteProduct primesOf covered firstHolding takenFor takenThrough chosen writtenProduct formOf writtenForm
 computed = refl

@@ -18,7 +18,7 @@ use Rattle.gf2.proofs.Finite.{all-not}
 use Rattle.gf2.proofs.Xor.{xor-eq, xor-fix, xors}
 use Rattle.gf2.proofs.Span.{span-mem, span-xor, coset-self}
 use Rattle.gf2.proofs.Reduce.{reduce-le, reduce-twice}
-use Rattle.gf2.proofs.Insert.{insert-reduced, insert-below, insert-new, insert-span, join-length}
+use Rattle.gf2.proofs.Insert.{insert-reduced, insert-below, insert-length, insert-span}
 use Rattle.gf2.proofs.Cubes.{coset-reduce}
 use Rattle.cubes.specs.Cubes.{Candidate, candidate, degree, spans, pointsOf, IsCandidate}
 use Rattle.cubes.specs.Candidates.{candidates}
@@ -76,7 +76,7 @@ module _ (n : ℕ) (on free : ℕ → Bool) where
           inr (
             wider c v,
             widen X c v (k .1) (not-false (everyPoint (allowed on free) (v ∷ c .vectors) (c .point)) (i .1)) h,
-            ap length (insert-new (c .vectors) v (eqb-false (reduce (c .vectors) v) 0 (i .0))) ∙ join-length (reduce (c .vectors) v) (c .vectors),
+            insert-length (c .vectors) v (eqb-false (reduce (c .vectors) v) 0 (i .0)),
           )
 
   grown : (X : ℕ → Type 0) (d : ℕ) (c : Candidate) → n ≤ d + degree c → Held X c → (e : Candidate) × Held X e × (cannotGrow n on free e ≡ true)

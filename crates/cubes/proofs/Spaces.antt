@@ -11,7 +11,7 @@ use lib.ListN.{length}
 use Rattle.gf2.specs.Bits.{_⊕_}
 use Rattle.gf2.specs.Finite.{Mem, select}
 use Rattle.gf2.specs.Span.{Span}
-use Rattle.gf2.proofs.Logic.{same, and-exchange}
+use Rattle.gf2.proofs.Logic.{same, and-exchange, or-exchange}
 use Rattle.gf2.proofs.Xor.{xor-swap, xors}
 use Rattle.gf2.proofs.Finite.{select-ext}
 use Rattle.gf2.proofs.Span.{span-xor}
@@ -30,6 +30,15 @@ every-step f b (c ∷ bs) x =
     ap (λ (z : ℕ). (everyPoint f bs x && everyPoint f bs (x ⊕ c)) && (everyPoint f bs (x ⊕ b) && everyPoint f bs z)) (xor-swap x b c)
     ∙ and-exchange (everyPoint f bs x) (everyPoint f bs (x ⊕ c)) (everyPoint f bs (x ⊕ b)) (everyPoint f bs (x ⊕ c ⊕ b))
     ∙ ap₂ _&&_ (every-step f b bs x) (every-step f b bs (x ⊕ c))
+
+-- And with OR, that some point of it passed.
+pub some-step : (f : ℕ → Bool) (b : ℕ) (bs : List ℕ) (x : ℕ) → somePoint f (b ∷ bs) x ≡ somePoint (λ y. f y || f (y ⊕ b)) bs x
+unfolding somePoint
+some-step f b [] x = refl
+some-step f b (c ∷ bs) x =
+    ap (λ (z : ℕ). (somePoint f bs x || somePoint f bs (x ⊕ c)) || (somePoint f bs (x ⊕ b) || somePoint f bs z)) (xor-swap x b c)
+    ∙ or-exchange (somePoint f bs x) (somePoint f bs (x ⊕ c)) (somePoint f bs (x ⊕ b)) (somePoint f bs (x ⊕ c ⊕ b))
+    ∙ ap₂ _||_ (some-step f b bs x) (some-step f b bs (x ⊕ c))
 
 -- Some point passes exactly if not every point fails.
 pub some-every : (f : ℕ → Bool) (bs : List ℕ) (x : ℕ) → somePoint f bs x ≡ not (everyPoint (λ y. not (f y)) bs x)

@@ -1,18 +1,19 @@
 -- Laws of specs.Finite: tests over all numbers below a bound, the search for the least, members of a list and of a selection, lists joined. Read next: Xor.
 use mathlib.Core.Path.{_≡_, refl, sym, ap, ap₂, _∙_, subst}
-use mathlib.Core.Bool.{Bool, true, false, not, cond, _&&_}
+use mathlib.Core.Bool.{Bool, true, false, not, cond, _&&_, _||_, and-assoc, or-assoc}
 use mathlib.Core.Logic.{_⊎_, inl, inr, _↔_}
 use mathlib.Core.List.{List, [], _∷_, _++_, map, flatMap, map-append, append-nil, append-assoc}
 use Prim.Native.Nat.{ℕ, zero, suc, _+_, _≤_, _<_}
 use native.Mathlib.Nat.{le-refl, lt-of-not-le, eq-or-lt-of-le, le-of-suc-le-suc, suc-inj, not-suc-le-zero, lt-suc-self}
 use native.Mathlib.Decide.{decLe, ℕ-discrete}
+use native.Mathlib.Numerals.{add-one}
 use native.Mathlib.Omega.{arith}
 use borrow.Author.Tests.{not-true, not-false, eqb-true, eq-eqb, le-leb, lt-leb}
 use lib.Dec.{eqb, leb}
 use lib.ListN.{length, getD, drop, take, length-append}
-use Rattle.gf2.specs.Finite.{Mem, holds, Ordered, Rising, all, select}
+use Rattle.gf2.specs.Finite.{Mem, holds, Ordered, Rising, every, all, select}
 use Rattle.gf2.proofs.Logic.{clash, same, and-l, and-r, and-i, or-l, or-r, or-cases, cond-cases}
-use lib.Seq.{take-suc}
+use lib.Seq.{take-suc, drop-cons}
 
 -- ---- all numbers below a bound
 pub all-at : (f : ℕ → Bool) (n : ℕ) → all f n ≡ true → (i : ℕ) → i < n → f i ≡ true
@@ -57,6 +58,19 @@ least f = below-ind (λ (n : ℕ). f n ≡ true → (m : ℕ) × (m ≤ n) × (f
         let k = all-not (λ i. not (f i)) n q in
         let m = ih (k .0) (k .1) (not-false (f (k .0)) (k .2)) in
         (m .0, omega (arith, k .1, m .1), m .2, m .3)
+
+-- ---- every element of a list
+
+pub every-is : {A : Type 0} (t : A → Bool) (l : List A) → (every t l ≡ true) ↔ ((x : A) → Mem x l → t x ≡ true)
+every-is t [] = (λ e x m. absurd m, λ h. refl)
+every-is t (y ∷ l) = (
+  λ e x m. elim m [ inl q ↦ rw q (and-l (t y) (every t l) e) | inr i ↦ every-is t l .0 (and-r (t y) (every t l) e) x i ],
+  λ h. and-i (t y) (every t l) (h y (inl refl)) (every-is t l .1 (λ x m. h x (inr m))),
+)
+
+pub every-append : {A : Type 0} (t : A → Bool) (l m : List A) → every t (l ++ m) ≡ every t l && every t m
+every-append t [] m = refl
+every-append t (x ∷ l) m = ap (λ b. t x && b) (every-append t l m) ∙ sym (and-assoc (t x) (every t l) (every t m))
 
 -- ---- members of a list
 pub cons-all : {A : Type 0} (P : A → Type 0) (a : A) (l : List A) → P a → ((b : A) → Mem b l → P b) → (b : A) → Mem b (a ∷ l) → P b
@@ -133,6 +147,11 @@ holds-mem (y ∷ ys) x = (
   λ e. elim (or-cases (eqb y x) (holds ys x) e) [ inl h ↦ inl (sym (eqb-true y x h)) | inr h ↦ inr (holds-mem ys x .0 h) ],
   λ m. elim m [ inl q ↦ or-l (eqb y x) (holds ys x) (eq-eqb y x (sym q)) | inr k ↦ or-r (eqb y x) (holds ys x) (holds-mem ys x .1 k) ],
 )
+
+-- The element at place i, and those from the next place on, after what a test says already.
+pub holds-next : (t : Bool) (l : List ℕ) (i x : ℕ) → i < length l → (t || eqb (getD l i 0) x) || holds (drop (i + 1) l) x ≡ t || holds (drop i l) x
+unfolding holds
+holds-next t l i x h = rw (add-one, drop-cons l i 0) (or-assoc t (eqb (getD l i 0) x) (holds (drop (suc i) l) x))
 
 -- The numbers below k that pass a test, as a test of membership.
 pub select-holds : (f : ℕ → Bool) (k x : ℕ) → x < k → holds (select f k) x ≡ f x

@@ -199,6 +199,9 @@ pub insert-new : (bs : List ℕ) (v : ℕ) → reduce bs v ≢ 0 → insert bs v
 unfolding insert
 insert-new bs v n = rw (ne-eqb (reduce bs v) 0 n)
 
+pub insert-length : (bs : List ℕ) (v : ℕ) → reduce bs v ≢ 0 → length (insert bs v) ≡ suc (length bs)
+insert-length bs v e = ap length (insert-new bs v e) ∙ join-length (reduce bs v) bs
+
 -- Vectors below 2 ^ n stay so.
 pub join-below : (n r : ℕ) (bs : List ℕ) → ((c : ℕ) → Mem c bs → c < 2 ^ n) → r < 2 ^ n → (c : ℕ) → Mem c (join r bs) → c < 2 ^ n
 join-below n r bs h l c m = span-below n (r ∷ bs) (cons-all (λ d. d < 2 ^ n) r bs l h) c (join-span r bs c .0 (span-mem (join r bs) c m))

@@ -139,6 +139,10 @@ lead-xor-higher a b p h = lead-eq (lead b) (b ⊕ a) (lead-xor (lead b) a b (lea
 pub lead-lt : (a b : ℕ) → 0 < b → lead a < lead b → a < b
 lead-lt a b p h = omega (arith, lead-below a b h, lead-low (lead b) b (lead-is b p))
 
+-- Leads rise with the numbers.
+pub lead-mono : (k j : ℕ) → 0 < k → k ≤ j → lead k ≤ lead j
+lead-mono k j p h = elim (decLe (lead k) (lead j)) [ yes i ↦ i | no i ↦ absurd (omega (arith, lead-lt j k p (lt-of-not-le i))) ]
+
 -- b < c, and b's lead bit is not set in c: then b's lead is below c's.
 pub lead-rise : (b c : ℕ) → 0 < b → b < c → hasLead b c ≡ false → lead b < lead c
 lead-rise b c p h e = go (ℕ-discrete (lead b) (lead c)) (decLe (lead b) (lead c))

@@ -48,6 +48,12 @@ pub or-l : (a b : Bool) → a ≡ true → a || b ≡ true
 or-l true b e = refl
 or-l false b e = clash refl (sym e)
 
+pub or-exchange : (a b c d : Bool) → (a || b) || (c || d) ≡ (a || c) || (b || d)
+or-exchange true b c d = refl
+or-exchange false true true d = refl
+or-exchange false true false d = refl
+or-exchange false false c d = refl
+
 pub or-r : (a b : Bool) → b ≡ true → a || b ≡ true
 or-r true b e = refl
 or-r false b e = e

@@ -98,8 +98,8 @@ reduced-drop zero bs r = r
 reduced-drop (suc i) [] r = tt
 reduced-drop (suc i) (b ∷ bs) r = reduced-drop i bs (r .2)
 
--- The leads rise too, so below 2 ^ n there are at most n vectors.
-lead-room : (n k : ℕ) (bs : List ℕ) → k ≤ n → Reduced bs → ((c : ℕ) → Mem c bs → (c < 2 ^ n) × (k ≤ lead c)) → length bs + k ≤ n
+-- The leads rise too, so below 2 ^ n there are at most n vectors, and at most n - k with leads from k on.
+pub lead-room : (n k : ℕ) (bs : List ℕ) → k ≤ n → Reduced bs → ((c : ℕ) → Mem c bs → (c < 2 ^ n) × (k ≤ lead c)) → length bs + k ≤ n
 lead-room n k [] l r h = omega arith
 lead-room n k (b ∷ bs) l r h =
     let low = h b (inl refl) in

@@ -1,9 +1,9 @@
 -- Laws of XOR and of single bits: the bits of a XOR, numbers with the same bits, associativity and cancellation, bits above a bound.
 -- Read next: Leads.
-use mathlib.Core.Path.{_≡_, refl, sym, ap, _∙_}
+use mathlib.Core.Path.{_≡_, refl, sym, ap, _∙_, subst}
 use mathlib.Core.Bool.{true, false, not, _&&_}
 use mathlib.Core.Logic.{_≢_}
-use Prim.Native.Nat.{ℕ, zero, suc, _-_, _*_, _/_, _%_, _^_, _<_}
+use Prim.Native.Nat.{ℕ, zero, suc, _-_, _*_, _/_, _%_, _^_, _≤_, _<_}
 use native.Mathlib.Nat.{div-one, le-of-suc-le-suc, lt-of-not-le, mod-lt, one-mul, zero-lt-suc}
 use native.Mathlib.Numerals.{one-add}
 use native.Mathlib.Decide.{decLe}
@@ -11,7 +11,7 @@ use native.Mathlib.Omega.{arith}
 use lib.Arith.{bin-ind}
 use lib.Dec.{eqb, eqb·zero-suc, eqb·suc-zero, eqb·suc-suc, lit<}
 use lib.Pow.{pow-mono, pow-pos, shl-exact, shr-shr}
-use lib.Bits.{bitAnd, and-shr, and-mod, xor-comm, xor-self, xor-zero-l, xor-zero-r, xor-shr, xor-mod}
+use lib.Bits.{bitAnd, and-shr, and-mod, xor-comm, xor-lt, xor-self, xor-zero-l, xor-zero-r, xor-shr, xor-mod}
 use borrow.Author.Tests.{eq-eqb, ne-eqb}
 use Rattle.gf2.specs.Bits.{_⊕_, _⊻_, bit}
 use Rattle.gf2.proofs.Logic.{⊻-assoc, ⊻-comm}
@@ -129,6 +129,13 @@ xor-assoc a b c = bit-ext (a ⊕ b ⊕ c) (a ⊕ (b ⊕ c)) (λ k. simp (bit-xor
 
 pub xor-cancel : (a b : ℕ) → a ⊕ b ⊕ b ≡ a
 xor-cancel a b = xor-assoc a b b ∙ ap (λ (x : ℕ). a ⊕ x) (xor-self b) ∙ xor-zero-r a
+
+-- A number that is not below 2 ^ n stays so.
+pub xor-above : (n a b : ℕ) → 2 ^ n ≤ a → b < 2 ^ n → 2 ^ n ≤ a ⊕ b
+xor-above n a b h l = elim (decLe (2 ^ n) (a ⊕ b)) [
+  | yes g ↦ g
+  | no g ↦ absurd (omega (arith, subst (λ (z : ℕ). z < 2 ^ n) (xor-cancel a b) (xor-lt n (a ⊕ b) b (lt-of-not-le g) l)))
+]
 
 pub xor-cancel-l : (a b : ℕ) → a ⊕ (a ⊕ b) ≡ b
 xor-cancel-l a b = sym (xor-assoc a a b) ∙ ap (λ (x : ℕ). x ⊕ b) (xor-self a)

@@ -1,4 +1,4 @@
--- Members of a list, rising lists, tests over all numbers below a bound, and the numbers below a bound that pass a test. Read next: Bits.
+-- Members of a list, rising lists, tests over a list and over all numbers below a bound, and the numbers below a bound that pass a test. Read next: Bits.
 use mathlib.Core.Path.{_≡_}
 use mathlib.Core.Bool.{Bool, true, false, cond, _&&_, _||_}
 use mathlib.Core.Logic.{_⊎_}
@@ -23,6 +23,11 @@ Ordered {A} R (a ∷ l) = ((b : A) → Mem b l → R a b) × Ordered R l
 
 abbrev pub Rising : List ℕ → Type 0
 Rising ps = Ordered _<_ ps
+
+-- Every element of the list passes the test.
+abbrev pub every : {A : Type 0} → (A → Bool) → List A → Bool
+every t [] = true
+every t (x ∷ xs) = t x && every t xs
 
 -- Every number below k passes the test.
 unfoldable pub all : (ℕ → Bool) → ℕ → Bool

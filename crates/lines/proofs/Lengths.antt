@@ -17,9 +17,9 @@ use Rattle.product.specs.Product.{Factor}
 use Rattle.text.specs.Decimal.{decimal}
 use Rattle.text.specs.Pieces.{labelled, spacedNumber, spaced, name, names}
 use Rattle.text.proofs.Decimal.{decimal-length}
-use Rattle.lines.specs.Words.{freeWord, refusedWord, atWord, equalsWord, plusWord, plusSign, equalsSign, lineEnd}
-use Rattle.lines.proofs.Lines.{fault-placed, fault-alone}
-use Rattle.lines.specs.Lines.{numberLine, faultLine, countsLine, numbersText, numbersLine, variablesText, equationLine, equationLines, factorText, productText, productLine, productLines}
+use Rattle.lines.specs.Words.{freeWord, degreeWord, simpleWord, refusedWord, atWord, equalsWord, plusWord, plusSign, equalsSign, lineEnd}
+use Rattle.lines.proofs.Lines.{fault-placed, fault-alone, degree-marked, degree-plain}
+use Rattle.lines.specs.Lines.{numberLine, faultLine, countsLine, degreeLine, numbersText, numbersLine, variablesText, equationLine, equationLines, factorText, productText, productLine, productLines}
 
 -- Texts of at most b bytes each.
 pub flat-length : {A : Type 0} (f : A → List ℕ) (b : ℕ) (l : List A) → ((a : A) → Mem a l → length (f a) ≤ b) → length (flatMap f l) ≤ b * length l
@@ -63,6 +63,13 @@ counts-length on free h k =
       four-digits on h,
       number-length freeWord free 4 (four-digits free k),
     )
+
+-- A degree, marked or not.
+pub degree-length : (simple : Bool) (k : ℕ) → k < 100 → length (degreeLine simple k) ≤ 17
+degree-length true k h =
+    rw (← degree-marked true k refl)
+    (omega (arith, length-append (labelled degreeWord k) (simpleWord ++ lineEnd), length-append degreeWord (decimal k), two-digits k h))
+degree-length false k h = rw (← degree-plain false k refl) (omega (arith, number-length degreeWord k 2 (two-digits k h)))
 
 pub numbers-length : (word ps : List ℕ) → ((p : ℕ) → Mem p ps → p < 10000) → length (numbersLine word ps) ≤ length word + 5 * length ps + 3
 unfolding numbersLine spaced

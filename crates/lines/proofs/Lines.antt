@@ -1,6 +1,6 @@
 -- The lists of specs.Lines as texts made of pieces, one for each place of a list. Read next: Lengths.
 use mathlib.Core.Path.{_≡_, refl, sym, ap, _∙_}
-use mathlib.Core.Bool.{true, false}
+use mathlib.Core.Bool.{Bool, true, false}
 use mathlib.Core.List.{List, [], _∷_, _++_, zipWith, flatMap}
 use Prim.Native.Nat.{ℕ, zero, suc, _+_}
 use native.Mathlib.Omega.{arith}
@@ -9,8 +9,8 @@ use Rattle.table.specs.Refusal.{hasPlace}
 use Rattle.product.specs.Product.{factor}
 use Rattle.text.proofs.Pieces.{pieces, pieces-same, pieces-front, flat-pieces}
 use Rattle.text.specs.Pieces.{labelled}
-use Rattle.lines.specs.Words.{refusedWord, atWord}
-use Rattle.lines.specs.Lines.{numberLine, faultLine, listText, equationLine, equationLines, factorText}
+use Rattle.lines.specs.Words.{degreeWord, simpleWord, refusedWord, atWord, lineEnd}
+use Rattle.lines.specs.Lines.{numberLine, faultLine, degreeLine, listText, equationLine, equationLines, factorText}
 
 -- An empty list prints as a word of its own, any other as its elements.
 module _ {A : Type 0} (empty : List ℕ) (some : List A → List ℕ) where
@@ -31,6 +31,16 @@ module _ (number place : ℕ) where
   pub fault-alone : hasPlace number ≡ false → numberLine refusedWord number ≡ faultLine number place
   unfolding faultLine
   fault-alone e = rw e
+
+-- A degree prints its mark where it is asked for.
+module _ (simple : Bool) (k : ℕ) where
+  pub degree-marked : simple ≡ true → labelled degreeWord k ++ (simpleWord ++ lineEnd) ≡ degreeLine simple k
+  unfolding degreeLine
+  degree-marked e = rw e
+
+  pub degree-plain : simple ≡ false → numberLine degreeWord k ≡ degreeLine simple k
+  unfolding degreeLine
+  degree-plain e = rw e
 
 -- The line of the equation at a place of a list of masks.
 abbrev pub equationAt : ℕ → ℕ → List ℕ → ℕ → List ℕ

@@ -1,6 +1,6 @@
 -- The lines of the printed report, each with its newline (document 01, "The printed report").
 -- Read next: crate `table_report`, which puts them together.
-use mathlib.Core.Bool.{cond}
+use mathlib.Core.Bool.{Bool, cond}
 use mathlib.Core.List.{List, [], _∷_, _++_, flatMap}
 use Prim.Native.Nat.{ℕ, _+_}
 use Rattle.gf2.specs.Bits.{bit}
@@ -8,7 +8,7 @@ use Rattle.gf2.specs.Basis.{placesAt, variablesAt}
 use Rattle.table.specs.Refusal.{hasPlace}
 use Rattle.product.specs.Product.{Factor}
 use Rattle.text.specs.Pieces.{labelled, blankWord, spaced, names}
-use Rattle.lines.specs.Words.{onWord, freeWord, equationLetter, equalsWord, plusWord, noneWord, productWord, oneWord, plusSign, equalsSign, refusedWord, atWord, lineEnd}
+use Rattle.lines.specs.Words.{onWord, freeWord, degreeWord, simpleWord, equationLetter, equalsWord, plusWord, noneWord, productWord, oneWord, plusSign, equalsSign, refusedWord, atWord, lineEnd}
 
 -- A word and a number: `variables 4`, `degree 1`, `refused 5`.
 unfoldable pub numberLine : List ℕ → ℕ → List ℕ
@@ -21,6 +21,10 @@ faultLine number place = cond (hasPlace number) (labelled refusedWord number ++ 
 -- `on 10 free 0`
 unfoldable pub countsLine : ℕ → ℕ → List ℕ
 countsLine on free = labelled onWord on ++ numberLine freeWord free
+
+-- `degree 3`, and `degree 3 simple` where the degree is marked as that of the simple way (document 02, No. 4).
+unfoldable pub degreeLine : Bool → ℕ → List ℕ
+degreeLine simple k = cond simple (labelled degreeWord k ++ (simpleWord ++ lineEnd)) (numberLine degreeWord k)
 
 -- The text of a list, or a word of its own for an empty one.
 abbrev pub listText : {A : Type 0} → List ℕ → (List A → List ℕ) → List A → List ℕ

@@ -18,6 +18,10 @@ freeWord = 32 ∷ 102 ∷ 114 ∷ 101 ∷ 101 ∷ 32 ∷ []
 abbrev pub degreeWord : List ℕ
 degreeWord = 100 ∷ 101 ∷ 103 ∷ 114 ∷ 101 ∷ 101 ∷ 32 ∷ []
 
+-- ` simple`
+abbrev pub simpleWord : List ℕ
+simpleWord = 32 ∷ 115 ∷ 105 ∷ 109 ∷ 112 ∷ 108 ∷ 101 ∷ []
+
 -- `canonical`
 abbrev pub canonicalWord : List ℕ
 canonicalWord = 99 ∷ 97 ∷ 110 ∷ 111 ∷ 110 ∷ 105 ∷ 99 ∷ 97 ∷ 108 ∷ []

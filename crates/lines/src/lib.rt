@@ -7,7 +7,7 @@ ghost use lib.ListN.{length};
 ghost use Rattle.gf2.specs.Limits.{maxVariables};
 ghost use Rattle.product.specs.Product.{factor};
 ghost use Rattle.text.specs.Writing.{HasRoom, Wrote};
-ghost use Rattle.lines.specs.Lines.{numberLine, faultLine, countsLine, numbersText, numbersLine, variablesText, equationLine, equationLines, factorText, productText, productLine};
+ghost use Rattle.lines.specs.Lines.{numberLine, faultLine, countsLine, degreeLine, numbersText, numbersLine, variablesText, equationLine, equationLines, factorText, productText, productLine};
 
 // A word and a number.
 pub fn number_line(room: &mut [u8], at: usize, word: &[u8], n: usize) -> usize
@@ -37,6 +37,18 @@ pub fn counts_line(room: &mut [u8], at: usize, on: usize, free: usize) -> usize
 {
     let rest = text::write_labelled(&mut *room, at, b"on ", on);
     number_line(&mut *room, rest, b" free ", free)
+}
+
+// The degree, marked as that of the simple way if asked.
+pub fn degree_line(room: &mut [u8], at: usize, simple: bool, k: usize) -> usize
+    requires { ⌜ HasRoom (now room) at (degreeLine simple k) ⌝ }
+    ensures { λ r. ⌜ Wrote (now (room .entry)) at (degreeLine simple k) (now (room .exit)) r ⌝ }
+{
+    if !simple {
+        return number_line(&mut *room, at, b"degree ", k);
+    }
+    let end = text::write_labelled(&mut *room, at, b"degree ", k);
+    text::write_word(&mut *room, end, b" simple\n")
 }
 
 // Numbers, or `-` for none.

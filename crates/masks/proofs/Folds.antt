@@ -1,23 +1,22 @@
 -- Laws of the fold over an entry's vectors, and of the mask of a list of points. Read next: PrimeTest.
 use mathlib.Core.Path.{_≡_, sym, ap, _∙_, fun-ext}
-use mathlib.Core.Bool.{Bool, _&&_, _||_, or-assoc}
+use mathlib.Core.Bool.{Bool, _&&_, _||_}
 use mathlib.Core.List.{List}
 use Prim.Native.Nat.{ℕ, _+_, _-_, _*_, _/_, _%_, _^_, _≤_, _<_}
-use native.Mathlib.Numerals.{add-one}
 use native.Mathlib.Omega.{arith}
 use lib.Dec.{eqb}
 use lib.Bits.{bitAnd, bitOr}
 use lib.ListN.{length, drop, getD}
-use lib.Seq.{drop-cons}
 use Rattle.gf2.specs.Bits.{bit}
 use Rattle.gf2.specs.Finite.{holds}
-use Rattle.gf2.proofs.Xor.{bit-and, bit-pow, shifted-one}
+use Rattle.gf2.proofs.Finite.{holds-next}
+use Rattle.gf2.proofs.Xor.{bit-and}
+use Rattle.moves.specs.Moves.{maskSize, Moved}
+use Rattle.moves.proofs.Bits.{bit-put}
 use Rattle.cubes.specs.Primes.{everyPoint}
 use Rattle.cubes.proofs.Spaces.{every-step}
 use Rattle.bases.specs.Bases.{vectorsOf}
 use Rattle.bases.proofs.Entry.{vectors-step}
-use Rattle.masks.specs.Points.{maskSize, Moved}
-use Rattle.masks.proofs.Bits.{bit-or}
 
 -- ---- the vectors of an entry one after the other
 
@@ -34,16 +33,8 @@ every-end f l e x h = let q : l ≡ 0 = omega arith in ap (λ (z : ℕ). everyPo
 
 -- ---- the mask of a list of points
 
-holds-next : (ps : List ℕ) (i : ℕ) → i < length ps → (x : ℕ) → holds (drop i ps) x ≡ eqb (getD ps i 0) x || holds (drop (i + 1) ps) x
-unfolding holds
-holds-next ps i h x = rw (add-one, drop-cons ps i 0)
-
 -- The point at place i put into the mask.
 pub mask-next : (ps : List ℕ) (m i p : ℕ) → i < length ps → p ≡ getD ps i 0 → p < maskSize → (x : ℕ)
     → bit x (bitOr m (1 * 2 ^ p % 18446744073709551616)) || holds (drop (i + 1) ps) x ≡ bit x m || holds (drop i ps) x
 mask-next ps m i p h e l x =
-    ap (λ (t : Bool). t || holds (drop (i + 1) ps) x)
-    (bit-or x m (1 * 2 ^ p % 18446744073709551616) ∙ ap (λ (z : ℕ). bit x m || bit x z) (shifted-one p maskSize l)
-    ∙ ap (λ (t : Bool). bit x m || t) (bit-pow p x ∙ ap (λ (z : ℕ). eqb z x) e))
-    ∙ or-assoc (bit x m) (eqb (getD ps i 0) x) (holds (drop (i + 1) ps) x)
-    ∙ ap (λ (t : Bool). bit x m || t) (sym (holds-next ps i h x))
+    ap (λ (t : Bool). t || holds (drop (i + 1) ps) x) (bit-put maskSize x m p l ∙ ap (λ (z : ℕ). bit x m || eqb z x) e) ∙ holds-next (bit x m) ps i x h

@@ -17,14 +17,15 @@ use Rattle.gf2.proofs.Logic.{clash, same, and-l, or-cases}
 use Rattle.gf2.proofs.Xor.{bit-is, bit-turned, two-digits}
 use Rattle.gf2.proofs.Finite.{select-ext, select-off}
 use Rattle.table.proofs.Table.{refuted}
+use Rattle.moves.specs.Moves.{maskSize}
+use Rattle.moves.proofs.Bits.{bit-or, bit-cut}
 use Rattle.cubes.specs.Primes.{everyPoint, somePoint, allowed}
 use Rattle.cubes.proofs.Cubes.{select-step, vectors-below}
 use Rattle.cubes.proofs.Spaces.{some-every, every-ext, prime-count}
 use Rattle.bases.specs.Bases.{vectorsOf}
 use Rattle.bases.specs.Entry.{candidateAt, EntryAt}
 use Rattle.bases.proofs.Entry.{vectors-length, entry-candidate}
-use Rattle.masks.specs.Points.{maskSize, OfPoints, Fitting, EveryPoint, primeBy}
-use Rattle.masks.proofs.Bits.{bit-or, bit-cut}
+use Rattle.masks.specs.Points.{OfPoints, Fitting, EveryPoint, primeBy}
 
 -- ---- the count of ones
 

@@ -1,7 +1,7 @@
 -- Laws of specs.Product: each test says what document 01, "The written form", does, and a product may be read from the left, one factor at a
 -- time. Read next: Count.
 use mathlib.Core.Path.{_≡_, refl, sym, ap, _∙_, subst}
-use mathlib.Core.Bool.{Bool, true, false, not, _&&_, Bool·beq, and-assoc}
+use mathlib.Core.Bool.{Bool, true, false, not, _&&_, Bool·beq}
 use mathlib.Core.Logic.{inl, inr, _↔_}
 use mathlib.Core.List.{List, [], _∷_, _++_}
 use Prim.Native.Nat.{ℕ, zero, suc, _^_, _<_}
@@ -12,26 +12,13 @@ use lib.Dec.{eqb, ltb, leb}
 use lib.ListN.{length, getD}
 use borrow.Author.Tests.{ltb-true, lt-ltb, leb-true, le-leb, not-true}
 use Rattle.gf2.specs.Bits.{bit}
-use Rattle.gf2.specs.Finite.{Mem, Ordered}
+use Rattle.gf2.specs.Finite.{Mem, Ordered, every}
 use Rattle.gf2.specs.Parity.{odd}
 use Rattle.gf2.proofs.Logic.{clash, and-l, and-r, and-i, and-true, and-exchange, or-l, or-r, or-cases, beq-eq, eq-beq}
-use Rattle.gf2.proofs.Finite.{getD-mem}
+use Rattle.gf2.proofs.Finite.{getD-mem, every-is, every-append}
 use Rattle.product.specs.Lowest.{lowest}
-use Rattle.product.specs.Product.{Factor, factor, every, factorAt, productAt, someProductAt, Fits, fits, maskAt, Canonical, LowestApart, apartMasks, apart, canonical, agrees}
+use Rattle.product.specs.Product.{Factor, factor, factorAt, productAt, someProductAt, Fits, fits, maskAt, Canonical, LowestApart, apartMasks, apart, canonical, agrees}
 use Rattle.product.proofs.LowestBit.{lowest-below, lowest-fits}
-
--- ---- every element of a list
-
-pub every-is : {A : Type 0} (t : A → Bool) (l : List A) → (every t l ≡ true) ↔ ((x : A) → Mem x l → t x ≡ true)
-every-is t [] = (λ e x m. absurd m, λ h. refl)
-every-is t (y ∷ l) = (
-  λ e x m. elim m [ inl q ↦ rw q (and-l (t y) (every t l) e) | inr i ↦ every-is t l .0 (and-r (t y) (every t l) e) x i ],
-  λ h. and-i (t y) (every t l) (h y (inl refl)) (every-is t l .1 (λ x m. h x (inr m))),
-)
-
-pub every-append : {A : Type 0} (t : A → Bool) (l m : List A) → every t (l ++ m) ≡ every t l && every t m
-every-append t [] m = refl
-every-append t (x ∷ l) m = ap (λ b. t x && b) (every-append t l m) ∙ sym (and-assoc (t x) (every t l) (every t m))
 
 -- ---- factors, products and forms at a point
 

@@ -7,7 +7,7 @@ use Prim.Native.Nat.{ℕ, suc, _^_, _≤_, _<_}
 use lib.Dec.{eqb, ltb, leb}
 use lib.ListN.{length, getD}
 use Rattle.gf2.specs.Bits.{bit}
-use Rattle.gf2.specs.Finite.{Mem}
+use Rattle.gf2.specs.Finite.{Mem, every}
 use Rattle.gf2.specs.Parity.{odd}
 use Rattle.product.specs.Lowest.{lowest}
 
@@ -19,11 +19,6 @@ pub record Factor : Type 0 where
 -- The factor of a constant and a mask.
 abbrev pub factor : ℕ → ℕ → Factor
 factor constant mask = record { constant = constant; mask = mask }
-
--- Every element of the list passes the test.
-abbrev pub every : {A : Type 0} → (A → Bool) → List A → Bool
-every t [] = true
-every t (x ∷ xs) = t x && every t xs
 
 -- A factor is true when the number of mask bits set in the point is odd for constant 1, even for constant 0.
 unfoldable pub factorAt : Factor → ℕ → Bool

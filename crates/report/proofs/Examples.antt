@@ -13,8 +13,10 @@ use Rattle.records.specs.Walks.{walkBy}
 use Rattle.stored.specs.Layout.{walked}
 use Rattle.stored.specs.Marks.{recordMarks, markedPoints}
 use Rattle.stored.specs.Stored.{storedPlace}
+use Rattle.subspaces.specs.Spaces.{spacesOf, spacesFrom, largest}
+use Rattle.closure_set.specs.ClosureSet.{closes, closureSet, largestSpace, spread}
 use Rattle.space.specs.Closure.{closed, linearSpace, degree}
-use Rattle.space.specs.Completion.{allOn, completed}
+use Rattle.space.specs.Completion.{allOn, simplyCompleted, completed}
 use Rattle.space.specs.Restriction.{equation, equations, number, project, clean, restriction}
 use Rattle.cubes.specs.Lists.{keep}
 use Rattle.cubes.specs.Cubes.{spans, pointsOf}
@@ -26,8 +28,8 @@ use Rattle.cover.specs.Choice.{primesOf, covered, firstHolding, takenFor, taken
 use Rattle.cover.specs.WrittenForm.{writtenProduct, formOf, writtenForm, formSizeFault}
 use Rattle.text.specs.Decimal.{decimalIn, decimal}
 use Rattle.text.specs.Pieces.{spaced, names}
-use Rattle.lines.specs.Lines.{numberLine, faultLine, countsLine, numbersLine, variablesText, equationLine, equationLines, factorText, productLine, productLines}
-use Rattle.table_report.specs.Text.{spaceText, formText, tableText}
+use Rattle.lines.specs.Lines.{numberLine, faultLine, countsLine, degreeLine, numbersLine, variablesText, equationLine, equationLines, factorText, productLine, productLines}
+use Rattle.table_report.specs.Text.{isSimple, spaceText, formText, tableText}
 use Rattle.report.specs.Report.{reportText}
 
 -- A stored table and its report.
@@ -92,12 +94,11 @@ examples =
     example (0x4E ∷ 0x02 ∷ 0x4F ∷ 0x00 ∷ 0x00 ∷ 0x44 ∷ 0x01 ∷ 0x00 ∷ 0x44 ∷ 0x02 ∷ 0x00 ∷ 0x45 ∷ 0x03 ∷ 0x00 ∷ []) (
     118 ∷ 97 ∷ 114 ∷ 105 ∷ 97 ∷ 98 ∷ 108 ∷ 101 ∷ 115 ∷ 32 ∷ 50 ∷ 10 ∷
     111 ∷ 110 ∷ 32 ∷ 49 ∷ 32 ∷ 102 ∷ 114 ∷ 101 ∷ 101 ∷ 32 ∷ 50 ∷ 10 ∷
-    100 ∷ 101 ∷ 103 ∷ 114 ∷ 101 ∷ 101 ∷ 32 ∷ 48 ∷ 10 ∷
-    99 ∷ 97 ∷ 110 ∷ 111 ∷ 110 ∷ 105 ∷ 99 ∷ 97 ∷ 108 ∷ 32 ∷ 45 ∷ 10 ∷
+    100 ∷ 101 ∷ 103 ∷ 114 ∷ 101 ∷ 101 ∷ 32 ∷ 49 ∷ 10 ∷
+    99 ∷ 97 ∷ 110 ∷ 111 ∷ 110 ∷ 105 ∷ 99 ∷ 97 ∷ 108 ∷ 32 ∷ 50 ∷ 10 ∷
     121 ∷ 49 ∷ 32 ∷ 61 ∷ 32 ∷ 120 ∷ 49 ∷ 10 ∷
-    121 ∷ 50 ∷ 32 ∷ 61 ∷ 32 ∷ 120 ∷ 50 ∷ 10 ∷
     114 ∷ 101 ∷ 115 ∷ 116 ∷ 114 ∷ 105 ∷ 99 ∷ 116 ∷ 105 ∷ 111 ∷ 110 ∷ 32 ∷ 48 ∷ 10 ∷
-    112 ∷ 114 ∷ 111 ∷ 100 ∷ 117 ∷ 99 ∷ 116 ∷ 32 ∷ 120 ∷ 49 ∷ 61 ∷ 48 ∷ 32 ∷ 120 ∷ 50 ∷ 61 ∷ 48 ∷ 10 ∷ []) ∷
+    112 ∷ 114 ∷ 111 ∷ 100 ∷ 117 ∷ 99 ∷ 116 ∷ 32 ∷ 120 ∷ 49 ∷ 61 ∷ 48 ∷ 10 ∷ []) ∷
     -- No variables
     example (0x4E ∷ 0x00 ∷ 0x45 ∷ 0x00 ∷ 0x00 ∷ []) (
     114 ∷ 101 ∷ 102 ∷ 117 ∷ 115 ∷ 101 ∷ 100 ∷ 32 ∷ 49 ∷ 10 ∷ []) ∷
@@ -110,5 +111,5 @@ examples =
     []
 
 reports : map (λ e. reportText (e .table)) examples ≡ map (λ e. e .text) examples
-unfolding examples example flatMap bit halvings lead holds all select oddIn odd reduce clear reduces irreducible reducedBasis isLead placesAt hasPlace firstFault firstPlace storedPlace badCount outside notAbove unordered headOf walkBy walked recordMarks markedPoints closed linearSpace degree allOn completed equation equations number project clean restriction keep spans pointsOf bases candidatesOf candidatesFrom candidates everyPoint somePoint cannotGrow isPrime placeFactor canonicalProduct substituteMask substituteFactor substituteProduct primesOf covered firstHolding takenFor takenThrough chosen writtenProduct formOf writtenForm formSizeFault decimalIn decimal spaced names numberLine faultLine countsLine numbersLine variablesText equationLine equationLines factorText productLine productLines spaceText formText tableText reportText
+unfolding examples example flatMap bit halvings lead holds all select oddIn odd reduce clear reduces irreducible reducedBasis isLead placesAt hasPlace firstFault firstPlace storedPlace badCount outside notAbove unordered headOf walkBy walked recordMarks markedPoints closed linearSpace degree allOn spacesOf spacesFrom largest closes closureSet largestSpace spread simplyCompleted completed equation equations number project clean restriction keep spans pointsOf bases candidatesOf candidatesFrom candidates everyPoint somePoint cannotGrow isPrime placeFactor canonicalProduct substituteMask substituteFactor substituteProduct primesOf covered firstHolding takenFor takenThrough chosen writtenProduct formOf writtenForm formSizeFault decimalIn decimal spaced names numberLine faultLine countsLine numbersLine variablesText equationLine equationLines factorText productLine productLines spaceText formText tableText reportText degreeLine isSimple
 reports = refl

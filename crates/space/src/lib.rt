@@ -1,6 +1,6 @@
-// The spaces of a table (document 01, "Points and spaces"): linear space and degree, and completion. What the words mean is in specs/, which also say
-// what reduction equations, restriction and smallest affine space are (their code is in crate `projection`); the laws about them are in proofs/. Read next:
-// specs/Closure.antt.
+// The spaces of a table (document 01, "Points and spaces", and document 02, No. 4): linear space and degree, and completion. What the words mean is in
+// specs/, which also say what reduction equations, restriction and smallest affine space are (their code is in crate `projection`); the laws about them are
+// in proofs/. Read next: specs/Closure.antt.
 use basis::Basis;
 use table::MAX_POINTS;
 ghost use mathlib.Core.Path.{_≡_};
@@ -13,7 +13,7 @@ ghost use Rattle.basis.specs.Reduced.{basisOf, Built};
 ghost use Rattle.table.specs.Table.{Accepted};
 ghost use Rattle.space.specs.Closure.{closed, linearSpace};
 ghost use Rattle.space.specs.Witness.{flagged, Searchable, Answers};
-ghost use Rattle.space.specs.Completion.{IsCompleted};
+ghost use Rattle.space.specs.Completion.{simplyCompleted, CompletedTo, IsCompleted};
 
 // What a search for a break of closure finds: a vector and a point, or none.
 pub enum Witness {
@@ -86,7 +86,10 @@ pub fn linear_space(flags: &[bool; MAX_POINTS], n: usize) -> Basis
     basis
 }
 
-// A completed table: the flags of the completed function, its linear space, and the two degrees that were compared, k0 and k1.
+// The largest number of variables for which the largest space is searched, as `maxSearched` in specs/.
+pub const MAX_SEARCHED: usize = 8;
+
+// A completed table: the flags of the completed function, its linear space, and the two degrees of the simple way, k0 and k1.
 pub struct Completed {
     pub flags: [bool; MAX_POINTS],
     pub basis: Basis,
@@ -94,10 +97,10 @@ pub struct Completed {
     pub k1: usize,
 }
 
-// The completion of an accepted table: that of the larger degree; on a tie, all free points off.
-pub fn complete(n: usize, on: &[u16], free: &[u16]) -> Completed
+// The completion of an accepted table in the simple way: that of the larger degree; on a tie, all free points off.
+fn complete_simply(n: usize, on: &[u16], free: &[u16]) -> Completed
     requires { ⌜ Accepted n (now on) (now free) ⌝ }
-    ensures { λ r. ⌜ IsCompleted n (now (on .entry)) (now (free .entry)) r ⌝ }
+    ensures { λ r. ⌜ CompletedTo n (now (on .entry)) (now (free .entry)) (simplyCompleted n (now (on .entry)) (now (free .entry))) r ⌝ }
 {
     let all_off = table::flags_of(on);
     let all_on = table::mark(free, all_off);
@@ -118,5 +121,25 @@ pub fn complete(n: usize, on: &[u16], free: &[u16]) -> Completed
         basis: space_off,
         k0,
         k1,
+    }
+}
+
+// The completion of an accepted table: the on points spread over the largest space inside the closure set, where that space is searched; otherwise the
+// simple way.
+pub fn complete(n: usize, on: &[u16], free: &[u16]) -> Completed
+    requires { ⌜ Accepted n (now on) (now free) ⌝ }
+    ensures { λ r. ⌜ IsCompleted n (now (on .entry)) (now (free .entry)) r ⌝ }
+{
+    if MAX_SEARCHED < n {
+        return complete_simply(n, on, free);
+    }
+    let simple = complete_simply(n, on, free);
+    let closure = closure_set::closure_set(on, free);
+    let basis = subspace_search::largest_in(&closure, n);
+    Completed {
+        flags: closure_set::spread_flags(on, basis),
+        basis,
+        k0: simple.k0,
+        k1: simple.k1,
     }
 }

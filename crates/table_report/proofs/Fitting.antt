@@ -1,5 +1,5 @@
--- The report of a table has at most 21,566 bytes: with n - k above 6 there are at most 4,096 points of at most 5 bytes each and no product line, otherwise
--- at most 64 points and at most 62 products of at most 6 factors of at most 12 variables.
+-- The report of a table has at most 21,573 bytes: with n - k above 6 there are at most 4,096 points of at most 5 bytes each and no product line, otherwise
+-- at most 64 points and at most 62 products of at most 6 factors of at most 12 variables. Read next: Examples.
 use mathlib.Core.Path.{_≡_, refl}
 use mathlib.Core.Bool.{Bool, true, false, cond}
 use mathlib.Core.List.{List, _++_}
@@ -23,10 +23,10 @@ use Rattle.product.specs.Product.{Factor}
 use Rattle.cubes.specs.Records.{maxListed}
 use Rattle.cover.specs.WrittenForm.{writtenForm, formSizeFault}
 use Rattle.cover.proofs.WrittenForm.{form-factors, table-form-products, table-form-few}
-use Rattle.lines.specs.Words.{variablesWord, degreeWord, canonicalWord, restrictionWord, refusedWord}
-use Rattle.lines.specs.Lines.{numberLine, countsLine, numbersLine, equationLines, productLine, productLines}
-use Rattle.lines.proofs.Lengths.{two-digits, number-length, counts-length, numbers-length, variables-few, variables-below, equations-length, product-length, products-length}
-use Rattle.table_report.specs.Text.{refusedLine, spaceText, formText, tableText}
+use Rattle.lines.specs.Words.{variablesWord, canonicalWord, restrictionWord, refusedWord}
+use Rattle.lines.specs.Lines.{numberLine, countsLine, degreeLine, numbersLine, equationLines, productLine, productLines}
+use Rattle.lines.proofs.Lengths.{two-digits, number-length, counts-length, degree-length, numbers-length, variables-few, variables-below, equations-length, product-length, products-length}
+use Rattle.table_report.specs.Text.{refusedLine, isSimple, spaceText, formText, tableText}
 
 -- `refused N`
 pub refused-fits : (number : ℕ) → number < 100 → length (refusedLine number) ≤ 11
@@ -47,18 +47,18 @@ module _ (n : ℕ) (on free : List ℕ) (a : Accepted n on free) where
   left = linear-equations n f
 
   -- All lines of the space but for the points of its restriction.
-  space-fits : length (spaceText n bs points) ≤ 1044 + 5 * length points
+  space-fits : (simple : Bool) → length (spaceText n simple bs points) ≤ 1051 + 5 * length points
   unfolding spaceText f bs points degree
-  space-fits =
+  space-fits simple =
       let vs = variablesAt n (canonicalPlaces n bs) in
       let few : n ≤ 12 = a .few in
       let big : 2 ^ length (equations n bs) ≤ 4096 = pow-mono {j = 12} (omega (arith, left)) in
       omega (
         arith,
-        length-append (numberLine degreeWord (length bs)) (numbersLine canonicalWord vs ++ (equationLines n 1 (equations n bs) ++ numbersLine restrictionWord points)),
+        length-append (degreeLine simple (length bs)) (numbersLine canonicalWord vs ++ (equationLines n 1 (equations n bs) ++ numbersLine restrictionWord points)),
         length-append (numbersLine canonicalWord vs) (equationLines n 1 (equations n bs) ++ numbersLine restrictionWord points),
         length-append (equationLines n 1 (equations n bs)) (numbersLine restrictionWord points),
-        number-length degreeWord (length bs) 2 (two-digits (length bs) (omega (arith, left))),
+        degree-length simple (length bs) (omega (arith, left)),
         numbers-length canonicalWord vs (λ i m. omega (arith, variables-below n (canonicalPlaces n bs) i m)),
         variables-few n (isLead bs),
         equations-length n 1 (equations n bs) few (omega (arith, left)),
@@ -91,17 +91,18 @@ module _ (n : ℕ) (on free : List ℕ) (a : Accepted n on free) where
   points-few : (ps : List ℕ) → length ps ≤ 2 ^ n → length ps < 10000
   points-few ps h = let big : 2 ^ n ≤ 4096 = pow-mono {j = 12} (a .few) in omega arith
 
-  pub table-fits : length (tableText n on free) ≤ 21566
+  pub table-fits : length (tableText n on free) ≤ 21573
   unfolding tableText formText f bs points
   table-fits =
+      let simple = isSimple n free in
       omega (
         arith,
-        length-append (numberLine variablesWord n) (countsLine (length on) (length free) ++ (spaceText n bs points ++ formText n on free)),
-        length-append (countsLine (length on) (length free)) (spaceText n bs points ++ formText n on free),
-        length-append (spaceText n bs points) (formText n on free),
+        length-append (numberLine variablesWord n) (countsLine (length on) (length free) ++ (spaceText n simple bs points ++ formText n on free)),
+        length-append (countsLine (length on) (length free)) (spaceText n simple bs points ++ formText n on free),
+        length-append (spaceText n simple bs points) (formText n on free),
         number-length variablesWord n 2 (two-digits n (omega (arith, a .few))),
         counts-length (length on) (length free) (points-few on (rising-length on (2 ^ n) (a .on-rising) (a .on-below)))
             (points-few free (rising-length free (2 ^ n) (a .free-rising) (a .free-below))),
-        space-fits,
+        space-fits simple,
         form-fits (formSizeFault n on free) refl,
       )

@@ -35,7 +35,7 @@ use Rattle.choice.proofs.Products.{productAt, products-next}
 use Rattle.text.proofs.Pieces.{pieces}
 use Rattle.lines.specs.Words.{variablesWord}
 use Rattle.lines.specs.Lines.{numberLine, countsLine, productLine, productLines}
-use Rattle.table_report.specs.Text.{refusedLine, formText, tableText}
+use Rattle.table_report.specs.Text.{refusedLine, isSimple, formText, tableText}
 use Rattle.table_report.specs.Parts.{choiceText, formLines, functionText, Restricts}
 
 -- A product by value is the pairs of its constants and its masks.
@@ -91,7 +91,7 @@ module _ (n : ℕ) (bs points : List ℕ) where
 -- The report of a table.
 pub table-parts : (n : ℕ) (on free : List ℕ) → tableText n on free
     ≡ numberLine variablesWord n ++ (countsLine (length on) (length free)
-    ++ functionText n (linearSpace n (completed n on free)) (restriction n (linearSpace n (completed n on free)) (completed n on free)))
+    ++ functionText n (isSimple n free) (linearSpace n (completed n on free)) (restriction n (linearSpace n (completed n on free)) (completed n on free)))
 unfolding tableText functionText formText formLines formSizeFault writtenForm formOf degree
 table-parts n on free = refl
 
@@ -122,7 +122,10 @@ module _ {n : ℕ} {b : Basis} (s : BasisWithin n b) where
 
 -- ---- the completed function
 
-pub completed-text : {n : ℕ} {on free : List ℕ} {r : Completed} → IsCompleted n on free r
-    → functionText n (linearSpace n (completed n on free)) (restriction n (linearSpace n (completed n on free)) (completed n on free))
-    ≡ functionText n (vectorsOf (r .basis)) (restriction n (vectorsOf (r .basis)) (flagged (r .flags)))
-completed-text {n} k = sym (ap₂ (functionText n) (completed-vectors k) (completed-restriction k))
+pub completed-text : {n : ℕ} {on free : List ℕ} {r : Completed} → IsCompleted n on free r → {simple : Bool} → simple ≡ isSimple n free
+    → functionText n (isSimple n free) (linearSpace n (completed n on free)) (restriction n (linearSpace n (completed n on free)) (completed n on free))
+    ≡ functionText n simple (vectorsOf (r .basis)) (restriction n (vectorsOf (r .basis)) (flagged (r .flags)))
+completed-text {n} {on} {free} {r} k {simple} e =
+    let bs = vectorsOf (r .basis) in
+    sym (ap (λ (t : Bool). functionText n t bs (restriction n bs (flagged (r .flags)))) e
+    ∙ ap₂ (functionText n (isSimple n free)) (completed-vectors k) (completed-restriction k))

@@ -1,7 +1,7 @@
 -- The parts in which the report of a table is written: by the basis of the completed function's linear space and the points of its restriction.
 -- That they make up the report is `table-parts`. Read next: crate `report`.
 use mathlib.Core.Path.{_≡_}
-use mathlib.Core.Bool.{false, cond}
+use mathlib.Core.Bool.{Bool, false, cond}
 use mathlib.Core.List.{List, _++_, map}
 use Prim.Native.Nat.{ℕ, _-_}
 use lib.Dec.{ltb}
@@ -26,9 +26,9 @@ unfoldable pub formLines : ℕ → List ℕ → List ℕ → List ℕ
 formLines n bs points =
     cond (ltb maxListed (restrictedVariables n bs)) (refusedLine sizeFault) (productLines n (map (writtenProduct n bs) (chosen (restrictedVariables n bs) points)))
 
--- All lines of the completed function.
-unfoldable pub functionText : ℕ → List ℕ → List ℕ → List ℕ
-functionText n bs points = spaceText n bs points ++ formLines n bs points
+-- All lines of the completed function, its degree marked or not.
+unfoldable pub functionText : ℕ → Bool → List ℕ → List ℕ → List ℕ
+functionText n simple bs points = spaceText n simple bs points ++ formLines n bs points
 
 -- The points may be those of a restriction by a basis of n variables: they have n - k variables and rise.
 pub record Restricts (n : ℕ) (b : Basis) (points : List ℕ) : Type 0 where

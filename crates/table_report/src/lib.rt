@@ -3,6 +3,7 @@ use basis::Basis;
 use basis::ShortList;
 use choice::Choice;
 use cubes::MAX_LISTED;
+use space::MAX_SEARCHED;
 use table::MAX_POINTS;
 use table::SIZE_FAULT;
 ghost use mathlib.Core.Path.{_≡_};
@@ -20,7 +21,7 @@ ghost use Rattle.choice.specs.Chosen.{IsChoice};
 ghost use Rattle.text.specs.Writing.{HasRoom, Wrote};
 ghost use Rattle.lines.specs.Words.{canonicalWord};
 ghost use Rattle.lines.specs.Lines.{numbersLine, equationLines, productLine};
-ghost use Rattle.table_report.specs.Text.{spaceText, tableText};
+ghost use Rattle.table_report.specs.Text.{isSimple, spaceText, tableText};
 ghost use Rattle.table_report.specs.Parts.{choiceText, formLines, functionText, Restricts};
 
 // ---- the products
@@ -131,12 +132,19 @@ fn equations_text(room: &mut [u8], at: usize, n: usize, basis: Basis) -> usize
 }
 
 // Degree, canonical variables, reduction equations, restriction.
-fn space_text(room: &mut [u8], at: usize, n: usize, basis: Basis, points: &[u16]) -> usize
+fn space_text(
+    room: &mut [u8],
+    at: usize,
+    n: usize,
+    simple: bool,
+    basis: Basis,
+    points: &[u16],
+) -> usize
     requires { ⌜ BasisWithin n basis ⌝ }
-    requires { ⌜ HasRoom (now room) at (spaceText n (vectorsOf basis) (now points)) ⌝ }
-    ensures { λ r. ⌜ Wrote (now (room .entry)) at (spaceText n (vectorsOf basis) (now (points .entry))) (now (room .exit)) r ⌝ }
+    requires { ⌜ HasRoom (now room) at (spaceText n simple (vectorsOf basis) (now points)) ⌝ }
+    ensures { λ r. ⌜ Wrote (now (room .entry)) at (spaceText n simple (vectorsOf basis) (now (points .entry))) (now (room .exit)) r ⌝ }
 {
-    let next = lines::number_line(&mut *room, at, b"degree ", basis.degree());
+    let next = lines::degree_line(&mut *room, at, simple, basis.degree());
     let middle = canonical_line(&mut *room, next, n, basis);
     let last = equations_text(&mut *room, middle, n, basis);
     lines::numbers_line(&mut *room, last, b"restriction", points)
@@ -145,12 +153,19 @@ fn space_text(room: &mut [u8], at: usize, n: usize, basis: Basis, points: &[u16]
 // ---- the table
 
 // All lines of the completed function, by the points of its restriction.
-fn function_text(room: &mut [u8], at: usize, n: usize, basis: Basis, points: &[u16]) -> usize
+fn function_text(
+    room: &mut [u8],
+    at: usize,
+    n: usize,
+    simple: bool,
+    basis: Basis,
+    points: &[u16],
+) -> usize
     requires { ⌜ Restricts n basis (now points) ⌝ }
-    requires { ⌜ HasRoom (now room) at (functionText n (vectorsOf basis) (now points)) ⌝ }
-    ensures { λ r. ⌜ Wrote (now (room .entry)) at (functionText n (vectorsOf basis) (now (points .entry))) (now (room .exit)) r ⌝ }
+    requires { ⌜ HasRoom (now room) at (functionText n simple (vectorsOf basis) (now points)) ⌝ }
+    ensures { λ r. ⌜ Wrote (now (room .entry)) at (functionText n simple (vectorsOf basis) (now (points .entry))) (now (room .exit)) r ⌝ }
 {
-    let next = space_text(&mut *room, at, n, basis, points);
+    let next = space_text(&mut *room, at, n, simple, basis, points);
     form_lines(&mut *room, next, n, basis, points)
 }
 
@@ -159,18 +174,26 @@ fn flags_text(
     room: &mut [u8],
     at: usize,
     n: usize,
+    simple: bool,
     flags: &[bool; MAX_POINTS],
     basis: Basis,
 ) -> usize
     requires { ⌜ BasisWithin n basis ⌝ }
-    requires { ⌜ HasRoom (now room) at (functionText n (vectorsOf basis) (restriction n (vectorsOf basis) (flagged (now flags)))) ⌝ }
-    ensures { λ r. ⌜ Wrote (now (room .entry)) at (functionText n (vectorsOf basis) (restriction n (vectorsOf basis) (flagged (now (flags .entry))))) (now (room .exit)) r ⌝ }
+    requires { ⌜ HasRoom (now room) at (functionText n simple (vectorsOf basis) (restriction n (vectorsOf basis) (flagged (now flags)))) ⌝ }
+    ensures { λ r. ⌜ Wrote (now (room .entry)) at (functionText n simple (vectorsOf basis) (restriction n (vectorsOf basis) (flagged (now (flags .entry))))) (now (room .exit)) r ⌝ }
 {
     let leads = basis.leads();
     let count = projection::count_kept(flags, leads, n);
     let mut points = [0u16; MAX_POINTS];
     projection::write_kept(flags, leads, n, &mut points);
-    function_text(&mut *room, at, n, basis, &points[0..count])
+    function_text(&mut *room, at, n, simple, basis, &points[0..count])
+}
+
+// The degree is that of the simple way, and free points exist.
+fn is_simple(n: usize, free: &[u16]) -> bool
+    ensures { λ r. ⌜ r ≡ isSimple n (now (free .entry)) ⌝ }
+{
+    n > MAX_SEARCHED && free.len() > 0
 }
 
 // The report of an accepted table.
@@ -181,7 +204,8 @@ pub fn table_text(room: &mut [u8], at: usize, n: usize, on: &[u16], free: &[u16]
 {
     let next = lines::number_line(&mut *room, at, b"variables ", n);
     let rest = lines::counts_line(&mut *room, next, on.len(), free.len());
+    let simple = is_simple(n, free);
     let completed = space::complete(n, on, free);
     let flags = completed.flags;
-    flags_text(&mut *room, rest, n, &flags, completed.basis)
+    flags_text(&mut *room, rest, n, simple, &flags, completed.basis)
 }

@@ -2,9 +2,10 @@
 //! first. A refused call returns its number, with its place if bytes are at fault,
 //! and all others 0; it leaves lent memory as it was, and so is unused room after an
 //! accepted answer. Follows document 01, section "Refusal numbers", and document 02,
-//! No. 1 and No. 3.
+//! No. 1, No. 3 and No. 4.
 
 use crate::compare;
+use crate::completion;
 use crate::cover;
 use crate::form;
 use crate::numbers::*;
@@ -83,7 +84,7 @@ fn try_complete(
     room: &mut [u16],
 ) -> Result<CompletionNumbers, u8> {
     table::check(n, on, free)?;
-    let (points, degree, k0, k1) = space::complete(n, on, free);
+    let (points, degree, k0, k1) = completion::complete(n, on, free);
     check_room(&points, room)?;
     put(&points, room);
     Ok(CompletionNumbers {
@@ -110,7 +111,7 @@ fn try_analyse(
     room: &mut [u16],
 ) -> Result<AnalysisNumbers, u8> {
     table::check(n, on, free)?;
-    let (points, degree, _, _) = space::complete(n, on, free);
+    let (points, degree, _, _) = completion::complete(n, on, free);
     let basis = space::linear_space(n, &points);
     let restriction = space::restriction(n, &points, &basis);
     check_room(&restriction, room)?;

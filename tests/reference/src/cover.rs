@@ -2,6 +2,7 @@
 //! restriction that cover it, with the reduction equations put in.
 //! Follows document 01, section "The written form", last paragraph.
 
+use crate::completion;
 use crate::form::{self, Factor, Form, Product};
 use crate::primes::{self, Pseudocube};
 use crate::refusal;
@@ -72,7 +73,7 @@ pub fn put_equations_in(product: &[Factor], equations: &[u16]) -> Product {
 /// the room.
 pub fn write_form(n: usize, on: &[u16], free: &[u16]) -> Result<Form, u8> {
     table::check(n, on, free)?;
-    let (points, degree, _, _) = space::complete(n, on, free);
+    let (points, degree, _, _) = completion::complete(n, on, free);
     let kept = n - degree;
     if kept > primes::MOST_LISTED {
         return Err(refusal::ABOVE_SIX_VARIABLES);

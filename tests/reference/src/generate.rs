@@ -126,6 +126,72 @@ pub fn random_space(generator: &mut Generator, n: usize, dimension: usize) -> Ve
     space::reduced_basis(&space::span(&vectors))
 }
 
+/// The table whose only on point is this one and whose closure set is a given set
+/// that holds 0: the point XOR each of its vectors is on or free.
+pub fn table_with_closure_set(n: usize, point: u16, set: &[u16]) -> Table {
+    let others = set.iter().filter(|&&vector| vector != 0);
+    let mut free: Vec<u16> = others.map(|vector| vector ^ point).collect();
+    free.sort_unstable();
+    (n, vec![point], free)
+}
+
+/// The vectors of n variables that pass a test, and 0.
+fn vectors_of(n: usize, mut is_in: impl FnMut(u16) -> bool) -> Vec<u16> {
+    let vectors = 0..1u16 << n;
+    vectors
+        .filter(|&vector| vector == 0 || is_in(vector))
+        .collect()
+}
+
+/// 0 and the vectors of n variables outside the space of a basis.
+pub fn outside_space(n: usize, basis: &[u16]) -> Vec<u16> {
+    let inside = space::flags(n, &space::span(basis));
+    vectors_of(n, |vector| !inside[usize::from(vector)])
+}
+
+/// 0 and the vectors of n variables with one of the last `kept` variables set: all
+/// outside the space of the other variables.
+pub fn outside_first_variables(n: usize, kept: usize) -> Vec<u16> {
+    let first: Vec<u16> = (kept..n).map(|place| 1 << place).collect();
+    outside_space(n, &first)
+}
+
+/// The vectors of some random spaces together.
+fn union_of_spaces(generator: &mut Generator, n: usize, count: usize) -> Vec<u16> {
+    let mut union = vec![0];
+    for _ in 0..count {
+        let dimension = generator.below(n);
+        let space = space::span(&random_space(generator, n, dimension));
+        union = space::union(&union, &space);
+    }
+    union
+}
+
+/// Sets of vectors of n variables that hold 0, each of which is the closure set of
+/// some table: everything and 0 alone, what lies outside spaces of each dimension,
+/// unions of spaces, all but a few vectors, vectors with few and with many bits, and
+/// vectors at random.
+pub fn closure_sets(generator: &mut Generator, n: usize) -> Vec<Vec<u16>> {
+    let mut sets = vec![(0..1u16 << n).collect(), vec![0]];
+    for dimension in 0..=n {
+        let basis = random_space(generator, n, dimension);
+        sets.push(outside_space(n, &basis));
+        sets.push(outside_first_variables(n, dimension));
+        let few = dimension as u32;
+        sets.push(vectors_of(n, |vector| vector.count_ones() <= few));
+        sets.push(vectors_of(n, |vector| vector.count_ones() >= few));
+    }
+    for count in [2, 3, 8, 32] {
+        sets.push(union_of_spaces(generator, n, count));
+        let missing: Vec<u16> = (0..count).map(|_| generator.below(1 << n) as u16).collect();
+        sets.push(vectors_of(n, |vector| !missing.contains(&vector)));
+    }
+    for percent in [10, 25, 50, 75, 88, 93, 97] {
+        sets.push(vectors_of(n, |_| generator.chance(percent)));
+    }
+    sets
+}
+
 /// The function of n variables whose value at a point is that of a restriction,
 /// one flag to a point, at the values of the equations of a reduced basis.
 pub fn lifted(n: usize, basis: &[u16], restriction: &[bool]) -> Table {

@@ -4,6 +4,7 @@
 
 pub mod calls;
 pub mod compare;
+pub mod completion;
 pub mod cover;
 pub mod faults;
 pub mod form;

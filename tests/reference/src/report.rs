@@ -1,7 +1,9 @@
 //! The text of the printed report, from the bytes of a stored table.
-//! Follows document 01, section "The printed report", and document 02, No. 3: a
-//! refusal is printed with its place, if it has one.
+//! Follows document 01, section "The printed report", and document 02: No. 3, a
+//! refusal is printed with its place, if it has one; No. 4, the degree's line ends in
+//! `simple` where free points are completed by the rule of document 01.
 
+use crate::completion;
 use crate::form::{self, Factor};
 use crate::refusal::Refused;
 use crate::space;
@@ -38,11 +40,16 @@ fn product_line(n: usize, product: &[Factor]) -> String {
 
 /// The lines below the counts, for an accepted table.
 fn function_lines(n: usize, on: &[u16], free: &[u16]) -> Vec<String> {
-    let (points, degree, _, _) = space::complete(n, on, free);
+    let (points, degree, _, _) = completion::complete(n, on, free);
     let basis = space::linear_space(n, &points);
     let canonical = space::canonical_variables(n, &basis);
+    let simple = if completion::is_simple(n, free) {
+        " simple"
+    } else {
+        ""
+    };
     let mut lines = vec![
-        format!("degree {degree}"),
+        format!("degree {degree}{simple}"),
         format!("canonical {}", words(&canonical)),
     ];
     for (place, mask) in space::equations(n, &basis).into_iter().enumerate() {

@@ -1,5 +1,5 @@
-//! Linear spaces, reduced bases, completion, reduction equations, restriction
-//! and the smallest affine space, each straight from its definition.
+//! Linear spaces, reduced bases, reduction equations, restriction and the smallest
+//! affine space, each straight from its definition.
 //! Follows document 01, section "Points and spaces".
 
 use crate::refusal;
@@ -81,19 +81,6 @@ pub fn linear_space(n: usize, on: &[u16]) -> Vec<u16> {
 pub fn union(on: &[u16], free: &[u16]) -> Vec<u16> {
     let points: BTreeSet<u16> = on.iter().chain(free).copied().collect();
     points.into_iter().collect()
-}
-
-/// The completed function's on points, its degree, and the degrees k0 and k1
-/// with all free points off and with all of them on.
-pub fn complete(n: usize, on: &[u16], free: &[u16]) -> (Vec<u16>, usize, usize, usize) {
-    let all = union(on, free);
-    let degree_off = linear_space(n, on).len();
-    let degree_on = linear_space(n, &all).len();
-    if degree_on > degree_off {
-        (all, degree_on, degree_off, degree_on)
-    } else {
-        (on.to_vec(), degree_off, degree_off, degree_on)
-    }
 }
 
 /// The bit of the variable with this index: x1 is the highest bit.

@@ -1,6 +1,6 @@
 //! The worked examples P1 to P9 through the public calls, and the whole report
 //! of P5. Follows document 01, sections "Table of proved examples" and "The
-//! printed report".
+//! printed report", and document 02, No. 4, for P8.
 
 use reference::calls;
 use reference::numbers::short_list;
@@ -109,9 +109,11 @@ fn p7_smallest_affine_space() {
 fn p8_degrees_of_completion() {
     let mut room = [9; 4];
     let numbers = calls::complete(2, &[0], &[1, 2], &mut room);
-    assert_eq!((numbers.refusal, numbers.degree), (0, 0));
-    assert_eq!((numbers.k0, numbers.k1, numbers.point_count), (0, 0, 1));
-    assert_eq!(room, [0, 9, 9, 9]);
+    assert_eq!((numbers.refusal, numbers.degree), (0, 1));
+    assert_eq!((numbers.k0, numbers.k1, numbers.point_count), (0, 0, 2));
+    assert_eq!(room, [0, 1, 9, 9]);
+    let numbers = calls::analyse(2, &[0], &[1, 2], &mut room);
+    assert_eq!(numbers.basis, short_list(&[1]));
 }
 
 #[test]

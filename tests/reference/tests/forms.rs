@@ -1,12 +1,12 @@
 //! Forms: reading, faults and their places, points, and the form written for a
 //! table. Follows document 01, section "The written form", and document 02, No. 3.
 
+use reference::completion;
 use reference::cover;
 use reference::form::{self, read_form, Factor, Form};
 use reference::generate::{self, Generator};
 use reference::primes;
 use reference::refusal::*;
-use reference::space;
 use reference::table::MOST_VARIABLES;
 use std::collections::BTreeSet;
 
@@ -157,7 +157,7 @@ fn reading_and_writing_random_and_damaged_forms() {
 /// The form written for a table has the completed function's points, reads back
 /// as it is, and takes no more products and bytes than it can need.
 fn check_written_form(n: usize, on: &[u16], free: &[u16]) {
-    let (points, degree, _, _) = space::complete(n, on, free);
+    let (points, degree, _, _) = completion::complete(n, on, free);
     let written = form::write_form(n, on, free);
     if n - degree > 6 {
         assert_eq!(written, Err(5));

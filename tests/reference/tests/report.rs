@@ -1,5 +1,6 @@
 //! Lines of the report that are easy to get wrong, with whole outputs.
-//! Follows document 01, section "The printed report", and document 02, No. 3.
+//! Follows document 01, section "The printed report", and document 02, No. 3 and
+//! No. 4.
 
 use reference::report::report as text_of;
 use reference::table;
@@ -28,6 +29,32 @@ fn counts_are_those_of_the_input() {
     let text = report(2, &[], &[0, 1, 2, 3]);
     let expected = "variables 2\non 0 free 4\ndegree 2\ncanonical 1 2\nrestriction -\n";
     assert_eq!(text, expected);
+}
+
+/// Only from nine variables, and only with free points, whether they are used or
+/// not.
+#[test]
+fn the_degree_is_simple_from_nine_variables_with_free_points() {
+    let line = |n: usize, on: &[u16], free: &[u16]| {
+        let text = report(n, on, free);
+        text.lines()
+            .nth(2)
+            .expect("the line of the degree")
+            .to_string()
+    };
+    let last = |n: usize| (1 << n) - 1;
+    for n in 1..=table::MOST_VARIABLES {
+        let simple = if n >= 9 { " simple" } else { "" };
+        assert_eq!(line(n, &[], &[]), format!("degree {n}"));
+        assert_eq!(line(n, &[0], &[]), "degree 0");
+        assert_eq!(line(n, &[], &[last(n)]), format!("degree {n}{simple}"));
+        let all: Vec<u16> = (0..=last(n)).collect();
+        assert_eq!(line(n, &all[1..], &[0]), format!("degree {n}{simple}"));
+        assert_eq!(line(n, &[], &all), format!("degree {n}{simple}"));
+    }
+    assert_eq!(line(8, &[0], &[1, 2]), "degree 1");
+    assert_eq!(line(9, &[0], &[1, 2]), "degree 0 simple");
+    assert_eq!(line(9, &[0], &[1]), "degree 1 simple");
 }
 
 #[test]

@@ -3,6 +3,7 @@
 //! 01, section "Refusal numbers", and document 02, No. 3.
 
 use reference::calls;
+use reference::completion;
 use reference::form;
 use reference::generate::{self, Generator};
 use reference::numbers::*;
@@ -48,7 +49,7 @@ fn rooms_of_tables_and_spaces() {
     let mut generator = Generator::new(10);
     for n in 1..=9 {
         let (_, on, free) = generate::random_table(&mut generator, n, 50, 20);
-        let (points, ..) = space::complete(n, &on, &free);
+        let (points, ..) = completion::complete(n, &on, &free);
         check_point_room(&points, |room| calls::complete(n, &on, &free, room).refusal);
         let basis = space::linear_space(n, &points);
         let restriction = space::restriction(n, &points, &basis);

@@ -1,5 +1,5 @@
-//! Spaces, completion, restriction and smallest affine spaces compared with the
-//! bare definitions, on every small function and on random larger ones.
+//! Spaces, restriction and smallest affine spaces compared with the bare
+//! definitions, on every small function and on random larger ones.
 //! Follows document 01, section "Points and spaces".
 
 use reference::form;
@@ -129,30 +129,6 @@ fn affine_space_of_full_dimension() {
     let on = [0, 1, 2, 4];
     let full = (0, vec![1, 2, 4], on.to_vec());
     assert_eq!(space::affine(3, &on), Ok(full));
-}
-
-#[test]
-fn completion_takes_the_larger_degree_and_off_on_a_tie() {
-    let mut generator = Generator::new(3);
-    for n in 1..=8 {
-        for _ in 0..50 {
-            let (_, on, free) = generate::random_table(&mut generator, n, 30, 40);
-            let (points, degree, k0, k1) = space::complete(n, &on, &free);
-            let expected = if k1 > k0 {
-                space::union(&on, &free)
-            } else {
-                on.clone()
-            };
-            assert_eq!(points, expected);
-            assert_eq!(degree, k0.max(k1));
-            assert_eq!(degree, space::linear_space(n, &points).len());
-        }
-    }
-    assert_eq!(space::complete(2, &[], &[0, 1, 2, 3]), (vec![], 2, 2, 2));
-    assert_eq!(
-        space::complete(2, &[0], &[1, 2, 3]),
-        (vec![0, 1, 2, 3], 2, 0, 2)
-    );
 }
 
 #[test]

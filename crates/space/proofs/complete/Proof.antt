@@ -1,117 +1,128 @@
--- `space::complete` meets its contract: the flags made are those of the two complete functions, and the one of larger degree is handed back.
--- Assumes nothing.
-use mathlib.Core.Path.{_≡_, sym, ap, _∙_, subst}
-use mathlib.Core.Bool.{Bool, _||_, or-comm}
+-- `space::complete` meets its contract: up to eight variables the search finds the largest space inside the closure set, which is the linear space of the
+-- on points spread over it; from nine on the simple way is taken. Assumes nothing.
+use mathlib.Core.Path.{_≡_, sym, ap, _∙_, subst, subst⁻¹}
+use mathlib.Core.Bool.{Bool, true, false}
 use mathlib.Core.List.{List}
 use Prim.Native.Nat.{ℕ, _^_, _≤_, _<_}
 use native.Mathlib.Nat.{lt-of-lt-of-le}
-use lib.ListN.{length}
+use native.Mathlib.Omega.{arith}
+use lib.ListN.{getD}
 use lib.Pow.{pow-mono}
 use borrow.Author.Needs.{needs}
-use Rattle.gf2.specs.Finite.{holds, In}
+use Rattle.gf2.specs.Finite.{Mem, select}
+use Rattle.gf2.proofs.Finite.{select-ext}
 use Rattle.basis.specs.declared.Basis.{Basis}
-use Rattle.basis.specs.Reduced.{vectorsOf, basisOf, Built}
-use Rattle.basis.proofs.Values.{vectors-back}
-use Rattle.table.specs.Table.{Accepted}
-use Rattle.table.specs.Flags.{marked, flagsOf}
-use Rattle.table.proofs.Table.{on-flags, free-flags}
-use Rattle.table.proofs.Flags.{length-flags, flags-at, marked-at}
-use Rattle.space.specs.Closure.{closed, linearSpace, degree}
+use Rattle.basis.specs.Reduced.{vectorsOf, basisOf, BasisWithin}
+use Rattle.basis.proofs.Values.{vectors-back, is-basis}
+use Rattle.table.specs.Table.{Accepted, outside}
+use Rattle.table.proofs.Table.{not-outside, outside-more}
+use Rattle.point_sets.specs.Sets.{setVariables, setSize, member}
+use Rattle.subspaces.specs.Spaces.{largest}
+use Rattle.closure_set.specs.ClosureSet.{closes, closureSet, largestSpace, spread}
+use Rattle.closure_set.proofs.ClosureSet.{closes-zero}
+use Rattle.space.specs.declared.Completed.{Completed}
+use Rattle.space.specs.Closure.{linearSpace}
 use Rattle.space.specs.Witness.{flagged}
-use Rattle.space.specs.Completion.{allOff, allOn, k0, k1, completed, IsCompleted}
-use Rattle.space.proofs.Closure.{linear-span, linear-ext}
-use Rattle.space.proofs.Completion.{completed-off, completed-on}
+use Rattle.space.specs.Completion.{maxSearched, completed, simplyCompleted, CompletedTo, IsCompleted}
+use Rattle.space.proofs.Closure.{linear-reduced, linear-span, linear-below}
+use Rattle.space.proofs.Completion.{completed-spread, completed-simply, completed-linear}
 use Rattle.space.proofs.complete.Statement.{statement}
 use Rattle.space.proofs.complete.Tie as tie
 
--- The basis is the linear space of the function.
-abbrev SpaceOf : ℕ → (ℕ → Bool) → Basis → Type 0
-SpaceOf n f b = Built b (linearSpace n f) (In n (closed n f))
+-- From nine variables the table is completed in the simple way.
+simply : (n : ℕ) (on free : List ℕ) → maxSearched < n → (r : Completed) → CompletedTo n on free (simplyCompleted n on free) r → IsCompleted n on free r
+simply n on free h r k = subst (λ (f : ℕ → Bool). CompletedTo n on free f r) (sym (completed-simply n on free h)) k
 
--- So it is of any function that agrees with it at the points of n variables.
-module _ (n : ℕ) (b : Basis) (f g : ℕ → Bool) (u : SpaceOf n f b) (h : (w : ℕ) → w < 2 ^ n → f w ≡ g w) where
-  space-of : SpaceOf n g b
-  space-of = record { value = u .value ∙ ap basisOf (linear-ext n f g h); basis = u .basis; spans = linear-span n g }
+-- A table whose largest space is searched, and the closure set and the basis that were found.
+module _ {n : ℕ} {on free : List ℕ} (k : Accepted n on free) (h : n ≤ maxSearched) (closure : List ℕ)
+    (e : (a : ℕ) → a < setSize → member closure a ≡ closes on free a) {b : Basis} (q : b ≡ basisOf (largest n (select (member closure) (2 ^ n)))) where
+  -- It is the linear space of the completed function.
+  basis-is : b ≡ basisOf (linearSpace n (completed n on free))
+  unfolding closureSet largestSpace
+  basis-is =
+      q ∙ ap (λ l. basisOf (largest n l)) (select-ext (member closure) (closes on free) (2 ^ n) (λ x l. e x (lt-of-lt-of-le l (pow-mono h))))
+      ∙ ap basisOf (completed-linear n on free (k .on-below) h)
 
-  degree-of : (k : ℕ) → k ≡ length (vectorsOf b) → k ≡ degree n g
-  unfolding degree
-  degree-of k e = e ∙ ap (λ (x : Basis). length (vectorsOf x)) (space-of .value) ∙ ap length (vectors-back (linearSpace n g))
+  vectors-are : vectorsOf b ≡ linearSpace n (completed n on free)
+  vectors-are = ap vectorsOf basis-is ∙ vectors-back (linearSpace n (completed n on free))
 
--- The flags of the two complete functions, their linear spaces and degrees, and the completion chosen.
-module _ {n : ℕ} {on free : List ℕ} (k : Accepted n on free) {off full : List Bool} (e : off ≡ flagsOf on) (q : full ≡ marked free off)
-    {a b : Basis} (u : SpaceOf n (flagged off) a) (v : SpaceOf n (flagged full) b)
-    {low high : ℕ} (l : low ≡ length (vectorsOf a)) (h : high ≡ length (vectorsOf b)) where
-  off-at : (w : ℕ) → w < 2 ^ n → flagged off w ≡ allOff on w
-  off-at w m = rw e (flags-at on w (lt-of-lt-of-le m (pow-mono (k .few))))
+  within : BasisWithin setVariables b
+  within =
+      let bs = linearSpace n (completed n on free) in
+      subst⁻¹ (BasisWithin setVariables) basis-is (record {
+        few = omega arith;
+        basis = is-basis bs (linear-reduced n (completed n on free)) (λ c m. lt-of-lt-of-le (linear-below n (completed n on free) c m) (pow-mono (k .few)));
+        below = λ c m. lt-of-lt-of-le (linear-below n (completed n on free) c (subst (Mem c) (vectors-back bs) m)) (pow-mono h);
+      })
 
-  on-at : (w : ℕ) → w < 2 ^ n → flagged full w ≡ allOn on free w
-  unfolding allOn
-  on-at w m =
-      let room : w < length off = rw (e, length-flags on) (lt-of-lt-of-le m (pow-mono (k .few))) in
-      rw q (marked-at free off w room ∙ ap (λ (t : Bool). holds free w || t) (off-at w m) ∙ or-comm (holds free w) (holds on w))
-
-  low-is : low ≡ k0 n on
-  low-is = degree-of n a (flagged off) (allOff on) u off-at low l
-
-  high-is : high ≡ k1 n on free
-  high-is = degree-of n b (flagged full) (allOn on free) v on-at high h
-
-  chosen : (flags : List Bool) (c : Basis) (f : ℕ → Bool) → completed n on free ≡ f → ((w : ℕ) → w < 2 ^ n → flagged flags w ≡ f w)
-      → SpaceOf n f c → IsCompleted n on free (record { flags = flags; basis = c; k0 = low; k1 = high })
-  chosen flags c f z t x = record {
-    flags = λ w m. t w m ∙ sym (ap (λ (g : ℕ → Bool). g w) z);
-    basis = subst (λ (g : ℕ → Bool). SpaceOf n g c) (sym z) x;
-    k0 = low-is;
-    k1 = high-is;
+  searched : (flags : List Bool) → ((w : ℕ) → w < setSize → getD flags w false ≡ spread on (vectorsOf b) w)
+      → (simple : Completed) → CompletedTo n on free (simplyCompleted n on free) simple
+      → IsCompleted n on free (record { flags = flags; basis = b; k0 = simple .k0; k1 = simple .k1 })
+  searched flags f simple s = record {
+    flags = λ w l.
+        f w (lt-of-lt-of-le l (pow-mono h)) ∙ ap (λ bs. spread on bs w) (vectors-are ∙ sym (completed-linear n on free (k .on-below) h))
+        ∙ sym (ap (λ (g : ℕ → Bool). g w) (completed-spread n on free h));
+    basis = record { value = basis-is; basis = within .basis; spans = linear-span n (completed n on free) };
+    k0 = s .k0;
+    k1 = s .k1;
   }
 
-  larger : low < high → IsCompleted n on free (record { flags = full; basis = b; k0 = low; k1 = high })
-  larger m = chosen full b (allOn on free) (completed-on n on free (rw (low-is, high-is) at m)) on-at (space-of n b (flagged full) (allOn on free) v on-at)
+-- The points have eight variables.
+on-few : {n : ℕ} {on free : List ℕ} → Accepted n on free → n ≤ maxSearched → outside setVariables on ≡ false
+on-few {n} {on} k h = outside-more n on h (not-outside n on (k .on-below))
 
-  otherwise : high ≤ low → IsCompleted n on free (record { flags = off; basis = a; k0 = low; k1 = high })
-  otherwise m = chosen off a (allOff on) (completed-off n on free (rw (low-is, high-is) at m)) off-at (space-of n a (flagged off) (allOff on) u off-at)
+free-few : {n : ℕ} {on free : List ℕ} → Accepted n on free → n ≤ maxSearched → outside setVariables free ≡ false
+free-few {n} {on} {free} k h = outside-more n free h (not-outside n free (k .free-below))
 
-flags-of-requires : tie.Need-flags-of-requires
-flags-of-requires c κs = on-flags (c .before .before .pre)
-
-mark-requires : tie.Need-mark-requires
-mark-requires c κs = free-flags (c .before .before .before .pre)
-
-linear-space-requires : tie.Need-linear-space-requires
-linear-space-requires c κs = search needs
-
-linear-space-requires-2 : tie.Need-linear-space-requires-2
-linear-space-requires-2 c κs = search needs
-
-degree-requires : tie.Need-degree-requires
-degree-requires c κs = search needs
-
-degree-requires-2 : tie.Need-degree-requires-2
-degree-requires-2 c κs = search needs
+complete-simply-requires : tie.Need-complete-simply-requires
+complete-simply-requires c κs = search needs
 
 returns : tie.Need-returns
 returns c =
-    let s = c .before .before .before .before .before in
-    let m = s .before .before in
-    larger (m .before .before .before .before .pre) (m .before .flags-of .ensures) (m .mark .ensures) (s .linear-space .ensures)
-    (c .before .before .before .linear-space2 .ensures) (c .before .before .degree .ensures) (c .before .degree2 .ensures) (c .if1 .taken)
+    let t = c .before in
+    let s = t .before .before .before in
+    simply (s .args .n) (s .args .on .now) (s .args .free .now) (t .if1 .taken) (c .complete-simply .result) (c .complete-simply .ensures)
+
+complete-simply-requires-2 : tie.Need-complete-simply-requires-2
+complete-simply-requires-2 c κs = search needs
+
+closure-set-requires : tie.Need-closure-set-requires
+closure-set-requires c κs =
+    let t = c .before in
+    let s = t .before .before .before in
+    (on-few (s .pre) (t .if1 .left), free-few (s .pre) (t .if1 .left))
+
+largest-in-requires : tie.Need-largest-in-requires
+largest-in-requires c κs =
+    let t = c .before .before .before in
+    let s = t .before .before .before in
+    (t .if1 .left, c .before .closure-set .ensures 0 (omega arith) ∙ closes-zero (s .args .on .now) (s .args .free .now))
+
+spread-flags-requires : tie.Need-spread-flags-requires
+spread-flags-requires c κs =
+    let k = c .before .before in
+    let t = k .before .before in
+    let s = t .before .before .before in
+    (on-few (s .pre) (t .if1 .left), within (s .pre) (t .if1 .left) (k .closure-set .result) (k .closure-set .ensures) (c .largest-in .ensures))
 
 returns-2 : tie.Need-returns-2
 returns-2 c =
-    let s = c .before .before .before .before .before in
-    let m = s .before .before in
-    otherwise (m .before .before .before .before .pre) (m .before .flags-of .ensures) (m .mark .ensures) (s .linear-space .ensures)
-    (c .before .before .before .linear-space2 .ensures) (c .before .before .degree .ensures) (c .before .degree2 .ensures) (c .if1 .left)
+    let l = c .before in
+    let k = l .before .before in
+    let m = k .before in
+    let t = m .before in
+    let s = t .before .before .before in
+    searched (s .pre) (t .if1 .left) (k .closure-set .result) (k .closure-set .ensures) (l .largest-in .ensures) (c .spread-flags .result) (c .spread-flags .ensures)
+    (m .complete-simply2 .result) (m .complete-simply2 .ensures)
 
 pub complete-spec : {M : Type 1} → statement M
 complete-spec =
     tie.close
     (tie.spec
-    flags-of-requires
-    mark-requires
-    linear-space-requires
-    linear-space-requires-2
-    degree-requires
-    degree-requires-2
+    complete-simply-requires
     returns
+    complete-simply-requires-2
+    closure-set-requires
+    largest-in-requires
+    spread-flags-requires
     returns-2)

@@ -78,7 +78,7 @@ function-text-requires c κs =
     let s = start w in
     let a = s .args in
     let q = sym (restricted w) in
-    (subst (Restricts (a .n) (a .basis)) q (restricts (s .pre .0) (flagged (a .flags .now))), room-same (ap (functionText (a .n) (vectorsOf (a .basis))) q) (s .pre .1))
+    (subst (Restricts (a .n) (a .basis)) q (restricts (s .pre .0) (flagged (a .flags .now))), room-same (ap (functionText (a .n) (a .simple) (vectorsOf (a .basis))) q) (s .pre .1))
 
 same-length : tie.Need-same-length
 same-length c = search needs
@@ -88,7 +88,7 @@ returns c =
     let t = c .before .before in
     let w = points-written (t .before) in
     let a = start w .args in
-    wrote-same (ap (functionText (a .n) (vectorsOf (a .basis))) (restricted w)) (t .function-text .ensures)
+    wrote-same (ap (functionText (a .n) (a .simple) (vectorsOf (a .basis))) (restricted w)) (t .function-text .ensures)
 
 pub flags-text-spec : {M : Type 1} → statement M
 flags-text-spec =

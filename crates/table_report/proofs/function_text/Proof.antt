@@ -12,7 +12,7 @@ unfolding functionText
 space-text-requires c κs =
     let s = c .before .before .before in
     let a = s .args in
-    (s .pre .0 .spans, room-first (spaceText (a .n) (vectorsOf (a .basis)) (a .points .now)) (formLines (a .n) (vectorsOf (a .basis)) (a .points .now)) (s .pre .1))
+    (s .pre .0 .spans, room-first (spaceText (a .n) (a .simple) (vectorsOf (a .basis)) (a .points .now)) (formLines (a .n) (vectorsOf (a .basis)) (a .points .now)) (s .pre .1))
 
 form-lines-requires : tie.Need-form-lines-requires
 unfolding functionText

@@ -4,6 +4,7 @@
 //! those of document 01, section "What the library holds", and of document 02.
 
 use glospruma::{MAX_POINTS, MAX_VARIABLES, TABLE_LENGTH};
+use reference::completion::MOST_CLOSURE_VARIABLES;
 use reference::generate::{self, Generator};
 use reference::table::{self, Table};
 use std::arch::asm;
@@ -62,7 +63,7 @@ fn used<T>(mut call: impl FnMut() -> T) -> usize {
 }
 
 /// Tables of every size: random ones with free points, ones that keep six
-/// variables, and faulty ones.
+/// variables, ones with closure sets of every kind, and faulty ones.
 fn tables() -> Vec<Table> {
     let mut generator = Generator::new(1);
     let last = (MAX_POINTS - 1) as u16;
@@ -77,6 +78,10 @@ fn tables() -> Vec<Table> {
             let table = generate::closed_table(&mut generator, n, n - kept, 50);
             tables.push(generate::with_free_points(&mut generator, &table, percent));
         }
+    }
+    for n in 1..=MOST_CLOSURE_VARIABLES {
+        let sets = generate::closure_sets(&mut generator, n).into_iter();
+        tables.extend(sets.map(|set| generate::table_with_closure_set(n, 0, &set)));
     }
     tables
 }

@@ -1,5 +1,5 @@
 //! The analysis call compared with the reference. Follows document 01, section
-//! "Points and spaces".
+//! "Points and spaces", and document 02, No. 4.
 
 use crate::lent::{with_each_room, Lent};
 use crate::lent_calls;
@@ -77,6 +77,15 @@ fn every_small_table() {
 fn random_and_known_tables() {
     let mut tally = Tally::new("analyse, random and known tables");
     for (n, on, free) in tables::random_tables(120).chain(tables::known_tables()) {
+        compare(&mut tally, n, &on, &free);
+    }
+    tally.finish(&[0, 7]);
+}
+
+#[test]
+fn many_free_points() {
+    let mut tally = Tally::new("analyse, many free points");
+    for (n, on, free) in tables::closure_tables(121).chain(tables::free_tables(122)) {
         compare(&mut tally, n, &on, &free);
     }
     tally.finish(&[0, 7]);

@@ -1,15 +1,19 @@
 //! The cases of the folder `vectors/02`: each through the library and through the
 //! reference, all numbers and rooms, the place among them. Follows document 02.
 
+use crate::analyse;
 use crate::case_files::{self, Case};
 use crate::compare;
+use crate::complete;
 use crate::form_points;
 use crate::form_rewrite;
 use crate::lent_calls;
 use crate::read_table;
 use crate::tally::Tally;
+use crate::write_form;
 use library::settings::some;
 use reference::calls;
+use reference::numbers::{short_list, AnalysisNumbers, CompletionNumbers, FormNumbers};
 use reference::numbers::{ComparisonNumbers, FormPointsNumbers, RewriteNumbers, TableNumbers};
 
 /// The fields of a case must be these, in order of name.
@@ -180,6 +184,118 @@ fn form_rewrite() {
             check_form_rewrite(case, calls::form_rewrite);
             check_form_rewrite(case, |bytes, room| {
                 form_rewrite::numbers(&lent_calls::form_rewrite(bytes, room))
+            })
+        },
+    );
+}
+
+/// What a call on lists takes and gives; it has no place.
+const LIST_CALL: [&str; 4] = ["free", "n", "on", "room"];
+
+/// A case of a call on lists: its fields must be these, and the place 0.
+fn assert_list_call(case: &Case, call: &str, gives: &[&str]) {
+    assert_fields(case, call, &LIST_CALL, gives);
+    assert_eq!(case.gives.number::<usize>("place"), 0, "{}", case.title);
+}
+
+/// A call that takes a table and a room.
+type ListCall<E, N> = fn(usize, &[u16], &[u16], &mut [E]) -> N;
+
+/// Makes the call of a case by a function: its numbers, and the room.
+fn made<E, N>(case: &Case, mut room: Vec<E>, call: ListCall<E, N>) -> (N, Vec<E>) {
+    let (on, free) = (case.takes.list("on"), case.takes.list("free"));
+    let found = call(case.takes.number("n"), &on, &free, &mut room);
+    (found, room)
+}
+
+fn check_complete(case: &Case, call: ListCall<u16, CompletionNumbers>) -> u8 {
+    let Case { takes, gives, .. } = case;
+    let expected = CompletionNumbers {
+        refusal: gives.number("refusal"),
+        point_count: gives.number("count"),
+        degree: gives.number("degree"),
+        k0: gives.number("k0"),
+        k1: gives.number("k1"),
+    };
+    let found = made(case, takes.list("room"), call);
+    assert_eq!(found, (expected, gives.list("room")), "{}", case.title);
+    expected.refusal
+}
+
+#[test]
+fn complete() {
+    let gives = ["count", "degree", "k0", "k1", "place", "refusal", "room"];
+    each_case(
+        "complete, cases",
+        &[("04-complete", 160), ("extra/04-complete", 8)],
+        &[0, 1, 2, 3, 4, 7],
+        |case| {
+            assert_list_call(case, "complete", &gives);
+            check_complete(case, calls::complete);
+            check_complete(case, |n, on, free, room| {
+                complete::numbers(&lent_calls::complete(n, on, free, room))
+            })
+        },
+    );
+}
+
+fn check_analyse(case: &Case, call: ListCall<u16, AnalysisNumbers>) -> u8 {
+    let Case { takes, gives, .. } = case;
+    let expected = AnalysisNumbers {
+        refusal: gives.number("refusal"),
+        degree: gives.number("degree"),
+        basis: short_list(&gives.list("basis")),
+        canonical: short_list(&gives.list("canonical")),
+        equations: short_list(&gives.list("equations")),
+        restriction_count: gives.number("count"),
+    };
+    let found = made(case, takes.list("room"), call);
+    assert_eq!(found, (expected, gives.list("room")), "{}", case.title);
+    expected.refusal
+}
+
+#[test]
+fn analyse() {
+    let numbers = ["basis", "canonical", "count", "degree", "equations"];
+    let gives = [&numbers[..], &["place", "refusal", "room"]].concat();
+    each_case(
+        "analyse, cases",
+        &[("04-analyse", 160), ("extra/04-analyse", 8)],
+        &[0, 1, 2, 3, 4, 7],
+        |case| {
+            assert_list_call(case, "analyse", &gives);
+            check_analyse(case, calls::analyse);
+            check_analyse(case, |n, on, free, room| {
+                analyse::numbers(&lent_calls::analyse(n, on, free, room))
+            })
+        },
+    );
+}
+
+fn check_write_form(case: &Case, call: ListCall<u8, FormNumbers>) -> u8 {
+    let Case { takes, gives, .. } = case;
+    let expected = FormNumbers {
+        refusal: gives.number("refusal"),
+        length: gives.number("length"),
+        products: gives.number("products"),
+    };
+    let found = made(case, takes.bytes("room"), call);
+    assert_eq!(found, (expected, gives.bytes("room")), "{}", case.title);
+    expected.refusal
+}
+
+#[test]
+fn write_form() {
+    let gives = ["length", "place", "products", "refusal", "room"];
+    each_case(
+        "write form, cases",
+        &[("04-form", 160), ("extra/04-form", 5)],
+        &[0, 1, 2, 3, 4, 5, 7],
+        |case| {
+            assert_list_call(case, "form", &gives);
+            check_write_form(case, calls::write_form);
+            check_write_form(case, |n, on, free, room| {
+                write_form::numbers(&lent_calls::write_form(n, on, free, room))
             })
         },
     );

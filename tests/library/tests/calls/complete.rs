@@ -1,14 +1,16 @@
 //! The completion call compared with the reference. Follows document 01, section
-//! "Points and spaces".
+//! "Points and spaces", and document 02, No. 4.
 
 use crate::lent::{with_each_room, Lent};
 use crate::lent_calls;
 use crate::lists;
 use crate::tables;
 use crate::tally::{assert_counts, Tally};
-use glospruma::MAX_POINTS;
+use glospruma::{MAX_POINTS, MAX_VARIABLES};
+use library::settings::some;
 use library::Completion;
 use reference::calls;
+use reference::completion::MOST_CLOSURE_VARIABLES;
 use reference::numbers::CompletionNumbers;
 use reference::refusal::SHORT_ROOM;
 use std::cmp::Ordering;
@@ -63,23 +65,69 @@ fn every_small_table() {
     tally.finish(&[0, 7]);
 }
 
-/// All three cases come up: all off by the larger degree, all on, and a tie.
+/// How the tables with free points are completed: up to eight variables with a
+/// degree above k0 and k1 or with the larger of the two, from nine variables by all
+/// off, by a tie or by all on.
+#[derive(Default)]
+struct Ways([usize; 5]);
+
+impl Ways {
+    fn add(&mut self, n: usize, expected: &CompletionNumbers) {
+        let CompletionNumbers { degree, k0, k1, .. } = *expected;
+        let way = match k0.cmp(&k1) {
+            _ if n <= MOST_CLOSURE_VARIABLES => usize::from(degree == k0.max(k1)),
+            Ordering::Greater => 2,
+            Ordering::Equal => 3,
+            Ordering::Less => 4,
+        };
+        self.0[way] += 1;
+    }
+
+    /// Prints the counts; each way must have come up.
+    fn finish(self) {
+        let [above, larger, off, tie, all_on] = self.0;
+        println!("with free points, up to eight variables: {above} above both, {larger} not");
+        println!("from nine: {off} all off, {tie} ties, {all_on} all on");
+        assert_counts("complete, by degrees", &self.0, 50);
+    }
+}
+
+/// Both rules come up, and each of their cases.
 #[test]
 fn random_and_known_tables() {
     let mut tally = Tally::new("complete, random and known tables");
-    let (mut off, mut tie, mut all_on) = (0, 0, 0);
+    let mut ways = Ways::default();
     for (n, on, free) in tables::random_tables(110).chain(tables::known_tables()) {
         let expected = compare(&mut tally, n, &on, &free);
-        match expected.k0.cmp(&expected.k1) {
-            _ if free.is_empty() => {}
-            Ordering::Greater => off += 1,
-            Ordering::Equal => tie += 1,
-            Ordering::Less => all_on += 1,
+        if !free.is_empty() {
+            ways.add(n, &expected);
         }
     }
-    println!("with free points: {off} all off, {tie} ties, {all_on} all on");
-    assert_counts("complete, by degrees", &[off, tie, all_on], 100);
+    ways.finish();
     tally.finish(&[0, 7]);
+}
+
+#[test]
+fn many_free_points() {
+    let mut tally = Tally::new("complete, many free points");
+    for (n, on, free) in tables::closure_tables(111).chain(tables::free_tables(112)) {
+        compare(&mut tally, n, &on, &free);
+    }
+    tally.finish(&[0, 7]);
+}
+
+/// No on point and free points of every number: nothing is on.
+#[test]
+fn no_on_point() {
+    let mut tally = Tally::new("complete, no on point");
+    for n in some(1..=MAX_VARIABLES) {
+        let all: Vec<u16> = (0..1 << n).collect();
+        for free in [&all[..], &all[1..], &all[..1], &all[all.len() / 2..], &[]] {
+            let expected = compare(&mut tally, n, &[], free);
+            assert_eq!((expected.point_count, expected.degree), (0, n));
+        }
+    }
+    tally.finish(&[0]);
 }
 
 #[test]

@@ -1,5 +1,6 @@
 //! The worked examples, as far as these calls answer them, with the answers that
-//! document 01 prints. Follows document 01, section "Table of proved examples".
+//! documents 01 and 02 print. Follows document 01, section "Table of proved
+//! examples", and document 02, No. 4.
 
 use crate::forms;
 use crate::lent_calls;
@@ -180,14 +181,47 @@ fn p7_smallest_affine_space() {
 }
 
 #[test]
-fn p8_equal_degrees() {
+fn p8_a_degree_above_both() {
     let mut room = [9; 3];
     let found = lent_calls::complete(2, &[0], &[1, 2], &mut room);
-    assert_eq!((found.refusal, found.degree, found.count), (0, 0, 1));
+    assert_eq!((found.refusal, found.degree, found.count), (0, 1, 2));
     assert_eq!((found.k0, found.k1), (0, 0));
-    assert_eq!(room, [0, 9, 9]);
-    let form = [0x4E, 2, 0x50, 0x58, 0, 2, 0, 0x58, 0, 1, 0, 0x45, 1, 0];
-    assert_eq!(form_true_at(2, &[0], &[1, 2], &[0]), form);
+    assert_eq!(room, [0, 1, 9]);
+    let found = lent_calls::analyse(2, &[0], &[1, 2], &mut room);
+    assert_eq!((found.refusal, found.degree), (0, 1));
+    assert_eq!(found.basis, basis(&[1]));
+    assert_eq!(found.canonical, list(&[2]));
+    assert_eq!(found.equations, list(&[2]));
+    assert_eq!((found.count, room), (1, [0, 1, 9]));
+    let form = [0x4E, 2, 0x50, 0x58, 0, 2, 0, 0x45, 1, 0];
+    assert_eq!(form_true_at(2, &[0], &[1, 2], &[0, 1]), form);
+}
+
+/// The table of source 003, Example 3: its space 3 9 comes after 3 8.
+#[test]
+fn the_free_points_of_the_paper() {
+    let free = [0, 1, 2, 3, 11];
+    let mut room = [9; 16];
+    let found = lent_calls::complete(4, &P5_ON, &free, &mut room);
+    assert_eq!((found.refusal, found.degree, found.count), (0, 2, 12));
+    assert_eq!((found.k0, found.k1), (1, 0));
+    let points = [1, 2, 4, 5, 6, 7, 9, 10, 12, 13, 14, 15];
+    assert_eq!(room[..12], points);
+    let found = lent_calls::analyse(4, &P5_ON, &free, &mut room);
+    assert_eq!(found.basis, basis(&[3, 8]));
+    form_true_at(4, &P5_ON, &free, &points);
+}
+
+/// The closure set is 0 1 2 4 6: grown from its least vector a space stops at 1.
+#[test]
+fn a_space_that_growth_misses() {
+    let mut room = [9; 5];
+    let found = lent_calls::complete(3, &[0], &[1, 2, 4, 6], &mut room);
+    assert_eq!((found.refusal, found.degree, found.count), (0, 2, 4));
+    assert_eq!((found.k0, found.k1), (0, 0));
+    assert_eq!(room, [0, 2, 4, 6, 9]);
+    let found = lent_calls::analyse(3, &[0], &[1, 2, 4, 6], &mut room);
+    assert_eq!(found.basis, basis(&[2, 4]));
 }
 
 #[test]

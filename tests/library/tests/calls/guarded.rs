@@ -3,7 +3,7 @@
 //! tables and bytes, good and faulty, and rooms of every kind. The other tests
 //! have one of the two for each slice. Numbers and rooms must be the same; the
 //! other tests compare them with the reference. Follows document 01, section
-//! "Refusal numbers", and document 02, No. 1 and No. 3.
+//! "Refusal numbers", and document 02, No. 1, No. 3 and No. 4.
 
 use crate::forms;
 use crate::lent::{room_lengths, Entry, Guard, Lent};
@@ -146,8 +146,10 @@ pub fn some_tables() -> impl Iterator<Item = Table> {
     let random = tables::random_tables(190).step_by(23);
     let known = tables::known_tables().step_by(17);
     let kept = tables::kept_tables(191, 1, 7).step_by(3);
+    let closure = tables::closure_tables(197).step_by(11);
     let faulty = lists::pairs().step_by(83);
-    small.chain(random).chain(known).chain(kept).chain(faulty)
+    let good = small.chain(random).chain(known).chain(kept);
+    good.chain(closure).chain(faulty)
 }
 
 /// Stored tables and forms, whole and damaged: some hundred of each.

@@ -2,7 +2,8 @@
 //! to a call; `cases`, `examples`, `published` and `vectors` compare with fixed
 //! answers instead. `damaged_bytes` and `damaged_lists` make all calls on inputs
 //! damaged at random, `places` makes those that read bytes on inputs with faults at
-//! every place, `guarded` makes every call on the same input twice, with guard pages
+//! every place, `largest_space` checks what must hold of completed functions,
+//! `guarded` makes every call on the same input twice, with guard pages
 //! on either side, `small_stack` makes them with little stack, and `safe` makes the
 //! safe calls of the Rust package. Follows document 01, sections
 //! "Points and spaces", "Primes", "The written form", "Refusal numbers", "The
@@ -43,6 +44,7 @@ mod damaged_bytes;
 mod damaged_lists;
 mod examples;
 mod guarded;
+mod largest_space;
 mod places;
 mod published;
 mod safe;

@@ -1,5 +1,6 @@
 //! The call that writes the report of a stored table compared with the reference.
-//! Follows document 01, section "The printed report", and document 02, No. 3.
+//! Follows document 01, section "The printed report", and document 02, No. 3 and
+//! No. 4.
 
 use crate::judges;
 use crate::lent::{with_each_room, Lent};
@@ -7,11 +8,12 @@ use crate::stored;
 use crate::tables;
 use crate::tally::{assert_found, Tally};
 use glospruma::{MAX_POINTS, MAX_VARIABLES};
-use library::settings::{is_whole, taken};
+use library::settings::{is_whole, some, taken};
 use library::Report;
 use reference::generate::{self, Generator};
 use reference::numbers::ReportNumbers;
 use reference::report;
+use reference::table;
 use std::collections::BTreeMap;
 
 /// The numbers of the call in the reference's words.
@@ -110,6 +112,41 @@ fn random_and_known_tables() {
 }
 
 #[test]
+fn many_free_points() {
+    let tables = tables::closure_tables(186).chain(tables::free_tables(187));
+    let inputs = tables.map(|table| stored::bytes_of(&table));
+    compare_all("report, many free points", inputs, &[5]);
+}
+
+/// The degree's line ends in `simple` from nine variables if there are free points,
+/// whether they are used or not; never below, and not without free points. Every
+/// share of the inputs has eight and nine variables.
+#[test]
+fn simple_from_nine_variables_with_free_points() {
+    let mut tally = Tally::new("report, simple");
+    let mut line = |n: usize, on: &[u16], free: &[u16]| {
+        let text = compare(&mut tally, &table::write_stored(n, on, free));
+        text.lines().nth(2).expect("the degree's line").to_string()
+    };
+    for n in some(6..=MAX_VARIABLES).chain(1..6) {
+        let all: Vec<u16> = (0..1 << n).collect();
+        let simple = if n >= 9 { " simple" } else { "" };
+        assert_eq!(line(n, &all, &[]), format!("degree {n}"));
+        assert_eq!(line(n, &all[1..], &[]), "degree 0");
+        assert_eq!(line(n, &all[1..], &all[..1]), format!("degree {n}{simple}"));
+        assert_eq!(line(n, &[], &all), format!("degree {n}{simple}"));
+        let few = &[1, 2][..all.len().min(3) - 1];
+        let degree = if (2..9).contains(&n) {
+            1
+        } else {
+            usize::from(n == 1)
+        };
+        assert_eq!(line(n, &[0], few), format!("degree {degree}{simple}"));
+    }
+    tally.finish(&[0, 7]);
+}
+
+#[test]
 fn random_and_known_restrictions() {
     let tables = tables::kept_tables(181, 5, 7).chain(tables::lifted_tables(182));
     let inputs = tables.map(|table| stored::bytes_of(&table));
@@ -174,18 +211,22 @@ fn random_records() {
 }
 
 /// The longest texts are those of the most variables without a form; the line of
-/// the restriction then has all points but one.
+/// the restriction then has all points but one, or all but three of which two are
+/// free and the degree is `simple`.
 #[test]
 fn longest_texts() {
     let mut tally = Tally::new("report, longest texts");
     let mut longest = 0;
     let last = (MAX_POINTS - 1) as u16;
     for off in [0, 1, last / 2 + 1, last] {
-        let table = generate::table_of(MAX_VARIABLES, |point| point != off);
-        let text = compare(&mut tally, &stored::bytes_of(&table));
+        let (n, on, _) = generate::table_of(MAX_VARIABLES, |point| point != off);
         let last_on = if off == last { last - 1 } else { last };
-        assert!(text.ends_with(&format!(" {last_on}\nrefused 5\n")));
-        longest = longest.max(text.len());
+        let (free, fewer) = on.split_at(2);
+        for table in [(n, on.clone(), vec![]), (n, fewer.to_vec(), free.to_vec())] {
+            let text = compare(&mut tally, &stored::bytes_of(&table));
+            assert!(text.ends_with(&format!(" {last_on}\nrefused 5\n")));
+            longest = longest.max(text.len());
+        }
     }
     println!("longest text: {longest} bytes");
     tally.finish(&[0, 7]);

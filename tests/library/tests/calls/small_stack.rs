@@ -1,11 +1,12 @@
 //! Every call in a thread with as little stack as include/glospruma.h asks for;
 //! one that used more would touch the thread's guard page and stop the test. The
 //! program `stack` prints what each call uses. Follows document 01, section "What
-//! the library holds", and document 02, No. 1 and No. 3.
+//! the library holds", and document 02, No. 1, No. 3 and No. 4.
 
 use crate::lent_calls;
 use crate::stored;
 use glospruma::{MAX_POINTS, MAX_VARIABLES, REPORT_ROOM, WRITTEN_ROOM};
+use reference::completion::MOST_CLOSURE_VARIABLES;
 use reference::generate::{self, Generator};
 use reference::table::Table;
 use std::thread;
@@ -53,6 +54,12 @@ fn every_call() {
         tables.push(generate::with_free_points(&mut generator, &function, 5));
         tables.push(function);
         tables.push(generate::random_table(&mut generator, n, 60, 20));
+    }
+    for n in 1..=MOST_CLOSURE_VARIABLES {
+        for kept in [0, n / 2, n] {
+            let set = generate::outside_first_variables(n, kept);
+            tables.push(generate::table_with_closure_set(n, 0, &set));
+        }
     }
     tables.retain(|(_, on, _)| !on.is_empty());
     let calls = move || tables.iter().for_each(make_calls);

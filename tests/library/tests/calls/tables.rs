@@ -1,10 +1,12 @@
 //! Tables that every call on lists is compared on: all small ones, random ones
-//! and those of known functions. Follows document 01, section "Points and
-//! spaces". The same seed gives the same tables; of each list the share is made
+//! and those of known functions; and tables with many free points for those that
+//! complete a table. Follows document 01, section "Points and spaces", and document
+//! 02, No. 4. The same seed gives the same tables; of each list the share is made
 //! that the environment asks for.
 
 use glospruma::MAX_VARIABLES;
 use library::settings::{some, taken};
+use reference::completion::MOST_CLOSURE_VARIABLES;
 use reference::generate::{self, Generator};
 use reference::space;
 use reference::table::Table;
@@ -163,6 +165,39 @@ pub fn random_tables_of(widths: RangeInclusive<usize>, seed: u64) -> impl Iterat
     let widths = (0..ROUNDS).flat_map(move |_| widths.clone());
     let kinds = widths.flat_map(|n| MAKERS.map(|maker| (n, maker)));
     some(kinds).map(move |(n, maker)| maker(&mut generator, n))
+}
+
+/// Variables of the tables with many free points: all that are completed by their
+/// closure set, and one more.
+const CLOSURE_WIDTHS: RangeInclusive<usize> = 1..=MOST_CLOSURE_VARIABLES + 1;
+
+/// Tables with one on point, anywhere, and closure sets of every kind.
+pub fn closure_tables(seed: u64) -> impl Iterator<Item = Table> {
+    let mut generator = Generator::new(seed);
+    let mut tables = Vec::new();
+    for n in CLOSURE_WIDTHS {
+        for set in generate::closure_sets(&mut generator, n) {
+            let point = generator.below(1 << n) as u16;
+            tables.push(generate::table_with_closure_set(n, point, &set));
+        }
+    }
+    some(tables)
+}
+
+/// Tables with few on points and many free ones, and functions with a space, more
+/// than half of whose points are made free.
+pub fn free_tables(seed: u64) -> impl Iterator<Item = Table> {
+    let mut generator = Generator::new(seed);
+    let widths = (0..ROUNDS).flat_map(|_| CLOSURE_WIDTHS);
+    some(widths).flat_map(move |n| {
+        let on_percent = 1 + generator.below(20);
+        let free_percent = 50 + generator.below(51 - on_percent);
+        let random = generate::random_table(&mut generator, n, on_percent, free_percent);
+        let dimension = generator.below(n);
+        let function = generate::closed_table(&mut generator, n, dimension, 10);
+        let half_free = generate::with_free_points(&mut generator, &function, 55);
+        [random, half_free]
+    })
 }
 
 /// Counters of set variables, thresholds, parities, constants and single points

@@ -1,7 +1,7 @@
 //! The expected reports in the folder `vectors`: the report call compared with
 //! them whole, and the reader with the analysis in all lines but those of the
 //! products. Follows document 01, section "The printed report", and document 02,
-//! No. 3.
+//! No. 3 and No. 4.
 
 use crate::lent_calls;
 use crate::report::compare_text;
@@ -29,10 +29,12 @@ fn sum(n: usize, mask: u16) -> String {
     names.join(" + ")
 }
 
-/// The lines from the degree to the restriction.
-fn analysis_lines(n: usize, found: &Analysis, restriction: &[u16]) -> String {
+/// The lines from the degree to the restriction, of a table with so many free
+/// points.
+fn analysis_lines(n: usize, free: usize, found: &Analysis, restriction: &[u16]) -> String {
+    let simple = if n >= 9 && free > 0 { " simple" } else { "" };
     let canonical = words(&found.canonical.values[..found.canonical.len]);
-    let mut text = format!("degree {}\ncanonical {canonical}\n", found.degree);
+    let mut text = format!("degree {}{simple}\ncanonical {canonical}\n", found.degree);
     let equations = &found.equations.values[..found.equations.len];
     for (place, &mask) in equations.iter().enumerate() {
         text += &format!("y{} = {}\n", place + 1, sum(n, mask));
@@ -54,7 +56,7 @@ fn report(bytes: &[u8]) -> String {
     let found = lent_calls::analyse(n, on, free, &mut room);
     assert_eq!(found.refusal, 0);
     let counts = format!("variables {n}\non {} free {}\n", on.len(), free.len());
-    counts + &analysis_lines(n, &found, &room[..found.count])
+    counts + &analysis_lines(n, free.len(), &found, &room[..found.count])
 }
 
 /// The expected report as far as the restriction line.

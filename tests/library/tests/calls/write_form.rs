@@ -1,6 +1,6 @@
 //! The call that writes the form of a table compared with the reference, and the
 //! form read back. Follows document 01, sections "The written form" and "Refusal
-//! numbers".
+//! numbers", and document 02, No. 4.
 
 use crate::forms;
 use crate::lent::{with_each_room, Lent};
@@ -137,6 +137,15 @@ fn random_and_known_tables() {
     check.finish(&[0, 5, 7], 7, 50);
 }
 
+#[test]
+fn many_free_points() {
+    let mut check = Check::new("write form, many free points");
+    for table in tables::closure_tables(173).chain(tables::free_tables(174)) {
+        check.table(&table);
+    }
+    check.finish(&[0, 5, 7], 7, 10);
+}
+
 /// Restrictions of no variable to seven.
 #[test]
 fn random_restrictions() {
@@ -196,25 +205,33 @@ fn faulty_lists() {
 }
 
 /// The refusals of a table come before 5, and 5 before 7; 5 is for the completed
-/// function's restriction and not for n.
+/// function's restriction and not for n. With on point 0 and free points 1 to 8 the
+/// closure set has a space of three dimensions, which counts up to eight variables.
 #[test]
 fn order_of_refusals() {
     let even: Vec<u16> = (0..128).step_by(2).collect();
-    let cases: [(usize, &[u16], &[u16], u8); 16] = [
+    let few: Vec<u16> = (1..8).collect();
+    let more: Vec<u16> = (1..9).collect();
+    let cases: [(usize, &[u16], &[u16], u8); 21] = [
         (0, &[], &[], 1),
         (MAX_VARIABLES + 1, &[1], &[1], 1),
         (7, &[128], &[], 2),
         (7, &[1, 1], &[128], 2),
         (7, &[1, 1], &[1], 3),
         (7, &[1], &[1], 4),
-        (7, &[1], &[2, 4], 5),
+        (7, &[1], &[], 5),
         (7, &[1], &[2], 7),
+        (7, &[1], &[2, 4], 7),
+        (8, &[0], &[1, 2], 5),
+        (8, &[0], &[1, 2, 3], 7),
+        (8, &[0], &more, 7),
+        (9, &[0], &more, 5),
+        (9, &[0], &few, 7),
         (12, &[4095], &[0], 5),
         (12, &[0, 1, 2], &[], 5),
         (6, &[1], &[2], 7),
         (7, &[], &[], 7),
         (12, &[], &[0, 4095], 7),
-        (7, &[5], &even, 5),
         (7, &even, &[], 7),
         (7, &even[1..], &[0], 7),
     ];

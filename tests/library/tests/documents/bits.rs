@@ -1,14 +1,16 @@
 //! Leads and parities are found by counts (document 02, No. 2), each in one
 //! function, of which crates/claims/specs/Bits.antt speaks: no other function of
-//! the crates counts zeros or ones, but for the test for a prime.
+//! the crates counts zeros or ones, but for the test for a prime and the next
+//! vector of a set, which is the lowest bit of what is left of 64 places.
 
 use crate::names::code_in;
 
 /// The functions that count, with their files and the counts.
-const COUNTING: [(&str, &str, &str); 4] = [
+const COUNTING: [(&str, &str, &str); 5] = [
     ("gf2/src/lib.rt", "lead", "leading_zeros"),
     ("gf2/src/lib.rt", "parity", "count_ones"),
     ("masks/src/lib.rt", "is_prime", "count_ones"),
+    ("point_sets/src/lib.rt", "least_from", "trailing_zeros"),
     ("product/src/lib.rt", "lowest", "trailing_zeros"),
 ];
 

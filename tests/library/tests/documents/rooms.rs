@@ -6,9 +6,10 @@ use crate::tables::numbers;
 use std::collections::{BTreeMap, BTreeSet};
 
 /// Constants of the header that are no rooms.
-const OTHERS: [&str; 4] = [
+const OTHERS: [&str; 5] = [
     "MAX_VARIABLES",
     "MAX_LISTED",
+    "MAX_SEARCHED",
     "RECORD_LENGTH",
     "DIFFERENCE_LENGTH",
 ];

@@ -5,10 +5,11 @@ use Prim.Native.Nat.{ℕ, _<_}
 use native.Mathlib.Omega.{arith}
 use borrow.Author.Needs.{needs}
 use Rattle.gf2.specs.Bits.{bit}
+use Rattle.moves.specs.Moves.{maskSize}
 use Rattle.cubes.specs.Primes.{everyPoint}
 use Rattle.bases.specs.Bases.{vectorsOf}
-use Rattle.masks.specs.Points.{maskSize, Fitting}
 use Rattle.bases.proofs.Entry.{vectors-each}
+use Rattle.masks.specs.Points.{Fitting}
 use Rattle.masks.proofs.Folds.{every-on, every-end}
 use Rattle.masks.proofs.points.every_point.Statement.{statement}
 use Rattle.masks.proofs.points.every_point.Tie as tie

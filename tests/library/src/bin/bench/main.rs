@@ -5,6 +5,7 @@
 //! by up to a third, on either side, so a ratio says no more than that.
 
 mod comparisons;
+mod completions;
 mod forms;
 mod measure;
 mod plain;
@@ -185,6 +186,21 @@ fn listings() {
     listing("n 6, random, allowance 1", &random, &places, 1);
 }
 
+/// Times the call for the smallest affine space, of full dimension and of one less.
+fn affine_spaces() {
+    for (title, tables) in [
+        ("affine, n 12, random", random_tables(50, 0)),
+        ("affine, n 12, random, dimension 11", odd_tables()),
+    ] {
+        point_call::<Affine>(
+            title,
+            &tables,
+            |n, on, _, room| library::affine(n, on, room),
+            |n, on, _, room| plain::affine(n, on, room),
+        );
+    }
+}
+
 fn main() {
     let with_free = random_tables(40, 20);
     measure::print_head();
@@ -203,23 +219,14 @@ fn main() {
             plain::analyse,
         );
     }
-    for (title, tables) in [
-        ("affine, n 12, random", random_tables(50, 0)),
-        ("affine, n 12, random, dimension 11", odd_tables()),
-    ] {
-        point_call::<Affine>(
-            title,
-            &tables,
-            |n, on, _, room| library::affine(n, on, room),
-            |n, on, _, room| plain::affine(n, on, room),
-        );
-    }
+    affine_spaces();
     point_call::<Completion>(
         "complete, n 12, random with free points",
         &with_free,
         library::complete,
         plain::complete,
     );
+    completions::completions();
     listings();
     forms::forms();
     comparisons::comparisons();

@@ -2,8 +2,10 @@
 //! flags one to a point; a search over vectors and points that stops at the first
 //! witness against closure, made of the full basis first and then of single
 //! vectors, rising, without those that have a lead bit of the basis; insertion
-//! into a reduced basis; for primes, the table of all reduced bases, and for a
-//! form the first prime that holds a point; for a comparison, one mark to a point.
+//! into a reduced basis; for completion, a search for the largest space inside the
+//! closure set over sets of four words; for primes, the table of all reduced bases,
+//! and for a form the first prime that holds a point; for a comparison, one mark to a
+//! point. And completion as source 003 has it, by growing a space.
 //! Follows document 01, sections "Points and spaces", "Primes", "The written form"
 //! and "The printed report", and document 02.
 
@@ -14,6 +16,8 @@ mod basis;
 mod choice;
 mod compare;
 mod complete;
+mod growth;
+mod largest;
 mod linear_space;
 mod list_primes;
 mod places;
@@ -23,12 +27,14 @@ mod report;
 mod sets;
 mod table;
 mod text;
+mod vector_sets;
 mod write_form;
 
 pub use affine::affine;
 pub use analyse::analyse;
 pub use compare::compare;
 pub use complete::complete;
+pub use growth::complete_by_growth;
 pub use linear_space::linear_space;
 pub use list_primes::list_primes;
 pub use read_table::read_into_rooms;

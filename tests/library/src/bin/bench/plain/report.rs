@@ -1,5 +1,5 @@
 //! The report call in plain Rust. Follows document 01, section "The printed
-//! report", and document 02, No. 3.
+//! report", and document 02, No. 3 and No. 4.
 
 use super::analyse::{restriction, variables};
 use super::basis::leads;
@@ -7,6 +7,7 @@ use super::complete::completed;
 use super::products::{products, Product};
 use super::read_table::{read_table, Refused};
 use super::text;
+use super::vector_sets;
 use library::{Report, ShortList};
 
 /// Room for most texts from the start.
@@ -47,6 +48,9 @@ fn try_lines(bytes: &[u8], lines: &mut Vec<u8>) -> Result<(), Refused> {
     text::number(lines, b"\non ", on.len());
     text::number(lines, b" free ", free.len());
     text::number(lines, b"\ndegree ", completed.basis.len);
+    if n > vector_sets::MOST_VARIABLES && !free.is_empty() {
+        lines.extend_from_slice(b" simple");
+    }
     let indices = canonical.values[..canonical.len].iter().copied();
     text::numbers_line(lines, b"\ncanonical", indices);
     equation_lines(lines, n, &equations);

@@ -1,0 +1,2 @@
+-- Sets of points as words of bits. The laws about these definitions stand in proofs/.
+pub mod Sets
