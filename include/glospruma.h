@@ -3,9 +3,9 @@
  *
  *     cc -Iinclude program.c target/staticlib/libglospruma.a
  *
- * To start from: examples/write_form.c, a stored table to the bytes of its form, examples/form_points.c, these bytes to their points, and
- * examples/compare.c, two stored tables to the points at which they differ. tests/c/examples.c makes every call. For Rust, the package in the
- * folder rust has the same calls with slices.
+ * To start from: examples/write_form.c, a stored table to the bytes of its form, examples/form_points.c, these bytes to their points,
+ * examples/compare.c, two stored tables to the points at which they differ, and examples/index.c, an input pattern to the product that fires.
+ * tests/c/examples.c makes every call. For Rust, the package in the folder rust has the same calls with slices.
  *
  * Points are numbers below 2^n; x1 is the highest bit of a point, xn its lowest. A table is a rising list of on points and a rising list of
  * free points; all other points are off. A mask names variables by the same bits.
@@ -22,8 +22,8 @@
  *
  * - A list or a room passes as a pointer and its length, counted in its own elements: so many can be read there, and in a room written.
  * - A pointer is never NULL, not even where the length is 0: any address does then, such as that of another list. A pointer to 16-bit numbers
- *   is even.
- * - A room overlaps no other room and no list of the same call. Lists may overlap.
+ *   or to records of points is even.
+ * - A room overlaps no other room and no list of the same call. Lists may overlap. The records of an index are read and written: a room.
  * - Nothing else writes to a list or touches a room while the call runs. Calls in several threads are otherwise independent.
  * - The thread has 128 KiB of stack left. Most calls use far less.
  *
@@ -43,7 +43,7 @@ extern "C" {
 #endif
 
 /* The version of this header and of the library, as in CHANGELOG.md. */
-#define GLOSPRUMA_VERSION "0.5.0"
+#define GLOSPRUMA_VERSION "0.6.0"
 
 /* The largest number of variables, of points of a table, of variables of a listing, and of variables for which free points are used by the largest
  * space; the bytes of the longest stored table. */
@@ -53,8 +53,8 @@ extern "C" {
 #define GLOSPRUMA_MAX_SEARCHED 8
 #define GLOSPRUMA_TABLE_LENGTH 12293
 
-/* Bytes of room that always suffice: for the form written for a table, for any form that can be read, and for a report. For points,
- * GLOSPRUMA_MAX_POINTS always suffice. */
+/* Bytes of room that always suffice: for the form written for a table, for any form that can be read, and for a report. For points, and for the
+ * records of an index, GLOSPRUMA_MAX_POINTS always suffice. */
 #define GLOSPRUMA_WRITTEN_ROOM 1555
 #define GLOSPRUMA_FORM_ROOM 3141
 #define GLOSPRUMA_REPORT_ROOM 24576
@@ -76,13 +76,18 @@ enum glospruma_mark {
     GLOSPRUMA_FREE = 2
 };
 
+/* The first product of a point that no product holds. */
+#define GLOSPRUMA_NO_PRODUCT 65535
+
 /* Each call tests what concerns it in this order: bytes first, for 20 to 27, and then 1, 2, 3, 4, 6, 5, 9, 7; the first that applies is given. Of
- * two tables the left one is tested so, then the right one, and 10 and 11 come last. When each is given is what glospruma_refusal_text says;
- * docs/CALLS.md has what to do about it.
+ * two tables the left one is tested so, then the right one, and 10 and 11 come last. A change of an index tests the form's bytes, then those of the
+ * product, and then 7 for the list, 17, 27 or 12, and 7 for the room. When each is given is what glospruma_refusal_text says; docs/CALLS.md has what
+ * to do about it.
  *
- * With 20 to 27 goes a place, counted from 0: the first byte at fault, or the length of the input where bytes are missing. With every other number,
- * and when accepted, it is 0. Of several faults the first from the left is given; docs/CALLS.md, "The place", has every rule. A table is never
- * refused with 22, 23, 24 or 27: its n is tested for 1, after its bytes. An example of each number:
+ * With 20 to 27 goes a place, counted from 0: the first byte at fault, or the length of the input where bytes are missing. In a product that is
+ * appended it counts from its 50, and it is 0 for a 65th one. With every other number, and when accepted, it is 0. Of several faults the first from
+ * the left is given; docs/CALLS.md, "The place", has every rule. A table is never refused with 22, 23, 24 or 27: its n is tested for 1, after its
+ * bytes. An example of each number:
  *
  * | bytes                                     | read as     | refusal | place | what to do                                                        |
  * | ---                                       | ---         | ---     | ---   | ---                                                               |
@@ -107,6 +112,8 @@ enum glospruma_refusal {
     GLOSPRUMA_PLACE = 9,
     GLOSPRUMA_COUNTS = 10,
     GLOSPRUMA_FIRST_POINT = 11,
+    GLOSPRUMA_EMPTY_FORM = 12,
+    GLOSPRUMA_RECORDS = 17,
     GLOSPRUMA_WRONG_KIND = 20,
     GLOSPRUMA_BYTES_MISSING = 21,
     GLOSPRUMA_WRONG_VARIABLES = 22,
@@ -136,6 +143,8 @@ static inline const char *glospruma_refusal_text(unsigned number) {
     case GLOSPRUMA_PLACE: return "a listing place above the number of candidates";
     case GLOSPRUMA_COUNTS: return "two tables have different numbers of variables";
     case GLOSPRUMA_FIRST_POINT: return "a first point above 2^n";
+    case GLOSPRUMA_EMPTY_FORM: return "a removal from a form with no product";
+    case GLOSPRUMA_RECORDS: return "the first 2^n records of the list aren't those of the form";
     case GLOSPRUMA_WRONG_KIND: return "a kind byte is unknown, or stands where it can't";
     case GLOSPRUMA_BYTES_MISSING: return "bytes are missing";
     case GLOSPRUMA_WRONG_VARIABLES: return "n of a form is 0 or above 12";
@@ -275,6 +284,37 @@ typedef struct {
 
 /* A form read and written again, into the room: the same bytes. Refusals 20, 21, 22, 23, 24, 25, 26, 27; 7. */
 glospruma_form_rewritten glospruma_form_rewrite(const uint8_t *bytes, size_t bytes_length, uint8_t *room, size_t room_length);
+
+/* The record of a point in an index: list[w] is that of the point w. */
+typedef struct {
+    uint16_t count; /* products that hold the point: those that are true there */
+    uint16_t first; /* the first of them, counted from 0, or GLOSPRUMA_NO_PRODUCT */
+} glospruma_point_record;
+
+/* Of the form that the list belongs to when the call is done: for a change, the new one. */
+typedef struct {
+    uint8_t refusal;
+    size_t place;     /* goes with 20 to 27, else 0 */
+    size_t variables; /* n: the first 2^n records are those of the form */
+    size_t length;    /* bytes of the form */
+    size_t products;  /* products of the form */
+} glospruma_indexed;
+
+/* The index of a form, into the list: a record for each of its 2^n points; records past them stay as they are.
+ * Refusals 20, 21, 22, 23, 24, 25, 26, 27; 7 if the list is shorter than 2^n. */
+glospruma_indexed glospruma_index_build(const uint8_t *form, size_t form_length, glospruma_point_record *list, size_t list_length);
+
+/* Appends a product to a form, and keeps its index. The product comes as bytes, 50 and its factors. The new form goes into the room; the list, which
+ * holds the index of the form, then holds that of the new one. Go on with the bytes in the room and the same list.
+ * Refusals 20, 21, 22, 23, 24, 25, 26, 27; 20, 21, 23, 24; 7, 17, 27, 7: the form's own, the product's own, then 7 if the list is shorter than 2^n,
+ * 27 with place 0 for a 65th product, and 7 if the room is short. */
+glospruma_indexed glospruma_index_append(const uint8_t *form, size_t form_length, const uint8_t *product, size_t product_length,
+                                         glospruma_point_record *list, size_t list_length, uint8_t *room, size_t room_length);
+
+/* Takes the last product away from a form, and keeps its index, in the same way.
+ * Refusals 20, 21, 22, 23, 24, 25, 26, 27; 7, 17, 12, 7: the form's own, then 7 if the list is shorter than 2^n, and last 7 if the room is short. */
+glospruma_indexed glospruma_index_remove(const uint8_t *form, size_t form_length, glospruma_point_record *list, size_t list_length, uint8_t *room,
+                                         size_t room_length);
 
 typedef struct {
     uint8_t refusal;

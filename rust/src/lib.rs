@@ -1,8 +1,9 @@
 //! The calls of Glospruma: it reads a Boolean table with free points, finds its
 //! linear space, canonical variables, reduction equations and restriction, the
 //! smallest affine space of its on points and its primes, and writes it as an OR
-//! of ANDs of XORs; and it lays two tables side by side. Follows document 01,
-//! section "What the library holds", and document 02.
+//! of ANDs of XORs; it lays two tables side by side, and keeps an index of which
+//! products of a form hold which point. Follows document 01, section "What the
+//! library holds", and document 02.
 //!
 //! Points are numbers below 2^n, n from 1 to 12; x1 is the highest bit of a point
 //! and xn its lowest. A table is n, a rising list of on points and a rising list
@@ -59,6 +60,29 @@
 //! # Ok::<(), Refused>(())
 //! ```
 //!
+//! Which product fires at an input pattern:
+//!
+//! ```
+//! use glospruma::{index_append, index_build, Holders, PointRecord, Refused};
+//! use glospruma::{FORM_ROOM, MAX_POINTS};
+//!
+//! // x2; or x1 and x2 differ, and an even number of x1, x3 and x4 is set.
+//! let form = [
+//!     0x4E, 4, 0x50, 0x58, 1, 4, 0, 0x50, 0x58, 1, 12, 0, 0x58, 0, 11, 0, 0x45, 2, 0,
+//! ];
+//! let mut list = [PointRecord::default(); MAX_POINTS];
+//! let index = index_build(&form, &mut list)?;
+//! assert_eq!(index.lookup(0b1001)?, Some(Holders { first: 1, count: 1 }));
+//! assert_eq!(index.lookup(0b1011)?, None);
+//!
+//! // A product more: x1 and x3.
+//! let product = [0x50, 0x58, 1, 8, 0, 0x58, 1, 2, 0];
+//! let mut room = [0; FORM_ROOM];
+//! let index = index_append(&form, &product, &mut list, &mut room)?;
+//! assert_eq!(index.lookup(0b1011)?, Some(Holders { first: 2, count: 1 }));
+//! # Ok::<(), Refused>(())
+//! ```
+//!
 //! What is wrong with bytes, and where:
 //!
 //! ```
@@ -81,6 +105,7 @@ pub mod raw;
 
 mod comparison;
 mod forms;
+mod index;
 mod primes;
 mod refusal;
 mod spaces;
@@ -88,8 +113,9 @@ mod stored;
 
 pub use comparison::{compare, differences, Comparison, Difference, Differences, Mark};
 pub use forms::{form_points, form_rewrite, write_form, FormPoints, RewrittenForm, WrittenForm};
+pub use index::{index_append, index_build, index_lookup, index_remove, Holders, Index};
 pub use primes::{list_primes, Listing, Prime};
-pub use raw::{Basis, ShortList};
+pub use raw::{Basis, PointRecord, ShortList};
 pub use refusal::{Refusal, Refused};
 pub use spaces::{
     affine, analyse, complete, linear_space, AffineSpace, Analysis, Completion, LinearSpace,
@@ -102,7 +128,7 @@ pub const VERSION: &str = env!("CARGO_PKG_VERSION");
 /// The largest number of variables.
 pub const MAX_VARIABLES: usize = 12;
 
-/// Room for points that always suffices.
+/// Room for points that always suffices, and for the records of an index.
 pub const MAX_POINTS: usize = 4096;
 
 /// The largest number of variables of a listing.
@@ -118,7 +144,8 @@ pub const TABLE_LENGTH: usize = 12_293;
 /// Room that always suffices for the form written for a table.
 pub const WRITTEN_ROOM: usize = 1555;
 
-/// Room that always suffices for writing a form again: bytes of the longest form.
+/// Room that always suffices for writing a form again, or with a product more or
+/// less: bytes of the longest form.
 pub const FORM_ROOM: usize = 3141;
 
 /// Room that always suffices for a report.
@@ -137,6 +164,9 @@ pub const DIFFERENCE_LENGTH: usize = 4;
 /// Room that always suffices for all records of two tables: each of 4,096 points
 /// may differ.
 pub const COMPARISON_ROOM: usize = 16_384;
+
+/// The first product in the record of a point that no product holds.
+pub const NO_PRODUCT: u16 = 65_535;
 
 /// The numbers of candidates of 1 to 6 variables: the places at which a listing
 /// ends.

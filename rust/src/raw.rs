@@ -9,7 +9,7 @@
 
 #![allow(unsafe_code)]
 
-use crate::MAX_VARIABLES;
+use crate::{MAX_VARIABLES, NO_PRODUCT};
 
 /// Up to twelve numbers by value: indices of variables, or masks of equations;
 /// unused entries are 0.
@@ -193,6 +193,44 @@ pub struct FormRewrite {
     pub length: usize,
 }
 
+/// The record of a point in an index: how many products hold it, and which is the
+/// first.
+#[repr(C)]
+#[derive(Clone, Copy, Debug, PartialEq, Eq, Hash)]
+pub struct PointRecord {
+    /// How many products hold the point: are true there.
+    pub count: u16,
+    /// The first of them, counted from 0, or [`NO_PRODUCT`].
+    pub first: u16,
+}
+
+/// The record of a point that no product holds.
+impl Default for PointRecord {
+    fn default() -> PointRecord {
+        PointRecord {
+            count: 0,
+            first: NO_PRODUCT,
+        }
+    }
+}
+
+/// Numbers of [`index_build`], [`index_append`] and [`index_remove`]: those of the
+/// form that the list belongs to when the call is done.
+#[repr(C)]
+#[derive(Clone, Copy, Debug, Default, PartialEq, Eq)]
+pub struct Indexed {
+    /// 0, or the refusal number.
+    pub refusal: u8,
+    /// The place that goes with refusals 20 to 27, else 0.
+    pub place: usize,
+    /// The number n of variables.
+    pub variables: usize,
+    /// Bytes of the form.
+    pub length: usize,
+    /// Products of the form.
+    pub products: usize,
+}
+
 /// Numbers of [`report`].
 #[repr(C)]
 #[derive(Clone, Copy, Debug, Default, PartialEq, Eq)]
@@ -288,6 +326,33 @@ extern "C" {
         room: *mut u8,
         room_length: usize,
     ) -> FormRewrite;
+
+    fn glospruma_index_build(
+        form: *const u8,
+        form_length: usize,
+        list: *mut PointRecord,
+        list_length: usize,
+    ) -> Indexed;
+
+    fn glospruma_index_append(
+        form: *const u8,
+        form_length: usize,
+        product: *const u8,
+        product_length: usize,
+        list: *mut PointRecord,
+        list_length: usize,
+        room: *mut u8,
+        room_length: usize,
+    ) -> Indexed;
+
+    fn glospruma_index_remove(
+        form: *const u8,
+        form_length: usize,
+        list: *mut PointRecord,
+        list_length: usize,
+        room: *mut u8,
+        room_length: usize,
+    ) -> Indexed;
 
     fn glospruma_report(
         bytes: *const u8,
@@ -430,6 +495,51 @@ pub fn form_points(bytes: &[u8], room: &mut [u16]) -> FormPoints {
 #[inline]
 pub fn form_rewrite(bytes: &[u8], room: &mut [u8]) -> FormRewrite {
     unsafe { glospruma_form_rewrite(bytes.as_ptr(), bytes.len(), room.as_mut_ptr(), room.len()) }
+}
+
+/// Builds the index of a form in the list.
+#[inline]
+pub fn index_build(form: &[u8], list: &mut [PointRecord]) -> Indexed {
+    unsafe { glospruma_index_build(form.as_ptr(), form.len(), list.as_mut_ptr(), list.len()) }
+}
+
+/// Appends a product to a form; the new form goes to the room, and the list is
+/// changed with it.
+#[inline]
+pub fn index_append(
+    form: &[u8],
+    product: &[u8],
+    list: &mut [PointRecord],
+    room: &mut [u8],
+) -> Indexed {
+    unsafe {
+        glospruma_index_append(
+            form.as_ptr(),
+            form.len(),
+            product.as_ptr(),
+            product.len(),
+            list.as_mut_ptr(),
+            list.len(),
+            room.as_mut_ptr(),
+            room.len(),
+        )
+    }
+}
+
+/// Takes the last product away from a form; the new form goes to the room, and the
+/// list is changed with it.
+#[inline]
+pub fn index_remove(form: &[u8], list: &mut [PointRecord], room: &mut [u8]) -> Indexed {
+    unsafe {
+        glospruma_index_remove(
+            form.as_ptr(),
+            form.len(),
+            list.as_mut_ptr(),
+            list.len(),
+            room.as_mut_ptr(),
+            room.len(),
+        )
+    }
 }
 
 /// Writes the whole text for a stored table to the room; a refused table has a

@@ -41,6 +41,10 @@ pub enum Refusal {
     Counts = 10,
     /// A first point above 2^n.
     FirstPoint = 11,
+    /// A removal from a form with no product.
+    EmptyForm = 12,
+    /// The first 2^n records of the list aren't those of the form.
+    Records = 17,
     /// A kind byte is unknown, or stands where it can't.
     WrongKind = 20,
     /// Bytes are missing.
@@ -61,7 +65,7 @@ pub enum Refusal {
 
 impl Refusal {
     /// All refusals, by number.
-    pub const ALL: [Refusal; 18] = [
+    pub const ALL: [Refusal; 20] = [
         Refusal::Variables,
         Refusal::Point,
         Refusal::Order,
@@ -72,6 +76,8 @@ impl Refusal {
         Refusal::Place,
         Refusal::Counts,
         Refusal::FirstPoint,
+        Refusal::EmptyForm,
+        Refusal::Records,
         Refusal::WrongKind,
         Refusal::BytesMissing,
         Refusal::WrongVariables,
@@ -88,7 +94,7 @@ impl Refusal {
     }
 }
 
-/// The refusal's number, 1 to 7, 9 to 11 or 20 to 27.
+/// The refusal's number, 1 to 7, 9 to 12, 17 or 20 to 27.
 impl From<Refusal> for u8 {
     fn from(refusal: Refusal) -> u8 {
         refusal as u8
@@ -121,6 +127,8 @@ impl fmt::Display for Refusal {
             Refusal::Place => "a listing place above the number of candidates",
             Refusal::Counts => "two tables have different numbers of variables",
             Refusal::FirstPoint => "a first point above 2^n",
+            Refusal::EmptyForm => "a removal from a form with no product",
+            Refusal::Records => "the first 2^n records of the list aren't those of the form",
             Refusal::WrongKind => "a kind byte is unknown, or stands where it can't",
             Refusal::BytesMissing => "bytes are missing",
             Refusal::WrongVariables => "n of a form is 0 or above 12",
@@ -159,8 +167,8 @@ pub struct Refused {
     /// Why.
     pub refusal: Refusal,
     /// Where, counted from 0: the first byte at fault, or the length of the input
-    /// where bytes are missing. 0 with a refusal that isn't one of bytes
-    /// ([`has_place`](Refusal::has_place)).
+    /// where bytes are missing; in a product that is appended, from its 50. 0 with a
+    /// refusal that isn't one of bytes ([`has_place`](Refusal::has_place)).
     pub place: usize,
 }
 

@@ -289,7 +289,7 @@ fn refusals_of_stored_tables() {
 /// 8 was the one number of all refused bytes up to version 0.3, and is unused.
 #[test]
 fn numbers_of_refusals() {
-    let given: Vec<u8> = (1..=7).chain(9..=11).chain(20..=27).collect();
+    let given: Vec<u8> = (1..=7).chain(9..=12).chain([17]).chain(20..=27).collect();
     assert_eq!(Refusal::ALL.map(u8::from).to_vec(), given);
     for refusal in Refusal::ALL {
         assert_eq!(Refusal::try_from(u8::from(refusal)), Ok(refusal));
@@ -314,5 +314,7 @@ fn layout_of_numbers() {
     assert_eq!(size_of::<raw::FormWritten>(), 24);
     assert_eq!(size_of::<raw::FormPoints>(), 32);
     assert_eq!(size_of::<raw::FormRewrite>(), 24);
+    assert_eq!(size_of::<raw::PointRecord>(), 4);
+    assert_eq!(size_of::<raw::Indexed>(), 40);
     assert_eq!(size_of::<raw::Report>(), 16);
 }

@@ -1,6 +1,6 @@
-/* Document 01's examples P1 to P9 and two tables side by side through include/glospruma.h, refusals of every number with lent memory compared, of
- * bytes also the place, and the layout of the answers. Prints how many cases passed, `N passed, 0 failed`, or what differs, and then exits with 1. To
- * build and run it, in the folder of the repository:
+/* Document 01's examples P1 to P9, two tables side by side and the index of a form through include/glospruma.h, refusals of every number with lent
+ * memory compared, of bytes also the place, and the layout of the answers. Prints how many cases passed, `N passed, 0 failed`, or what differs, and
+ * then exits with 1. To build and run it, in the folder of the repository:
  *
  *     cc -std=c99 -Wall -Wextra -Werror -pedantic -Iinclude tests/c/examples.c target/staticlib/libglospruma.a -o target/examples && target/examples
  *
@@ -517,6 +517,188 @@ static void refused_comparisons(void) {
     free(small.bytes);
 }
 
+/* A list of records, with paint in it. */
+typedef struct {
+    glospruma_point_record *records;
+    size_t length;
+} records;
+
+static records record_room(size_t length) {
+    records room = {allocated(length * sizeof(glospruma_point_record)), length};
+    memset(room.records, PAINT, length * sizeof(glospruma_point_record));
+    return room;
+}
+
+/* Whether a list has these records at its front and is as lent after them. */
+static int records_are(records list, const glospruma_point_record *expected, size_t count) {
+    return front_is(list.records, list.length * sizeof *expected, expected, count * sizeof *expected);
+}
+
+static glospruma_indexed build(bytes form, records list) {
+    return glospruma_index_build(form.bytes, form.length, list.records, list.length);
+}
+
+static glospruma_indexed append(bytes form, bytes product, records list, bytes room) {
+    return glospruma_index_append(form.bytes, form.length, product.bytes, product.length, list.records, list.length, room.bytes, room.length);
+}
+
+static glospruma_indexed take_away(bytes form, records list, bytes room) {
+    return glospruma_index_remove(form.bytes, form.length, list.records, list.length, room.bytes, room.length);
+}
+
+/* Whether an answer has these numbers. */
+static int indexed_is(glospruma_indexed found, fault expected, size_t variables, size_t length, size_t products) {
+    return found.refusal == expected.refusal && found.place == expected.place && found.variables == variables && found.length == length &&
+           found.products == products;
+}
+
+static const fault no_fault = {GLOSPRUMA_ACCEPTED, 0};
+
+/* The record of a point that no product holds. */
+#define NONE {0, GLOSPRUMA_NO_PRODUCT}
+
+/* The index of P5's form: x2 holds 4 to 7 and 12 to 15, the other product 4, 7, 9 and 10. */
+static const glospruma_point_record p5_index[16] = {NONE, NONE, NONE, NONE, {2, 0}, {1, 0}, {1, 0}, {2, 0},
+                                                    NONE, {1, 1}, {1, 1}, NONE, {1, 0}, {1, 0}, {1, 0}, {1, 0}};
+
+/* P5's form with x1 and x3 appended, which holds 10, 11, 14 and 15, and its index. */
+static const uint8_t p5_product[] = {0x50, 0x58, 1, 8, 0, 0x58, 1, 2, 0};
+static const uint8_t p5_longer[] = {0x4E, 4, 0x50, 0x58, 1, 4, 0, 0x50, 0x58, 1, 12, 0, 0x58, 0,
+                                    11, 0, 0x50, 0x58, 1, 8, 0, 0x58, 1, 2, 0, 0x45, 3, 0};
+static const glospruma_point_record p5_longer_index[16] = {NONE, NONE, NONE, NONE, {2, 0}, {1, 0}, {1, 0}, {2, 0},
+                                                           NONE, {1, 1}, {2, 1}, {1, 2}, {1, 0}, {1, 0}, {2, 0}, {2, 0}};
+
+/* Built, in lists that are too short, right and longer. */
+static void index_built(void) {
+    static const fault short_list = {GLOSPRUMA_ROOM, 0};
+    bytes form = byte_list(p5_form, sizeof p5_form);
+    size_t length;
+    for (length = 0; length <= 18; length++) {
+        records list = record_room(length);
+        glospruma_indexed found = build(form, list);
+        if (length < 16) {
+            CHECK(indexed_is(found, short_list, 0, 0, 0));
+            CHECK(records_are(list, NULL, 0));
+        } else {
+            CHECK(indexed_is(found, no_fault, 4, sizeof p5_form, 2));
+            CHECK(records_are(list, p5_index, 16));
+        }
+        free(list.records);
+    }
+    free(form.bytes);
+}
+
+/* A product is appended and taken away again, in rooms that are too short, right and longer; the list is as before. */
+static void index_changed(void) {
+    static const fault short_room = {GLOSPRUMA_ROOM, 0};
+    bytes form = byte_list(p5_form, sizeof p5_form), longer = byte_list(p5_longer, sizeof p5_longer);
+    bytes product = byte_list(p5_product, sizeof p5_product);
+    records list = record_room(17);
+    size_t length;
+    CHECK(indexed_is(build(form, list), no_fault, 4, sizeof p5_form, 2));
+    for (length = 0; length < sizeof p5_longer; length++) {
+        bytes room = byte_room(length);
+        CHECK(indexed_is(append(form, product, list, room), short_room, 0, 0, 0));
+        CHECK(bytes_as_lent(room));
+        CHECK(records_are(list, p5_index, 16));
+    }
+    for (length = sizeof p5_longer; length < sizeof p5_longer + 3; length++) {
+        bytes room = byte_room(length), back = byte_room(length - sizeof p5_product), short_back = byte_room(sizeof p5_form - 1);
+        CHECK(indexed_is(append(form, product, list, room), no_fault, 4, sizeof p5_longer, 3));
+        CHECK(bytes_are(room, p5_longer, sizeof p5_longer));
+        CHECK(records_are(list, p5_longer_index, 16));
+        CHECK(indexed_is(take_away(longer, list, short_back), short_room, 0, 0, 0));
+        CHECK(bytes_as_lent(short_back));
+        CHECK(records_are(list, p5_longer_index, 16));
+        CHECK(indexed_is(take_away(longer, list, back), no_fault, 4, sizeof p5_form, 2));
+        CHECK(bytes_are(back, p5_form, sizeof p5_form));
+        CHECK(records_are(list, p5_index, 16));
+    }
+    free(form.bytes);
+    free(longer.bytes);
+    free(product.bytes);
+    free(list.records);
+}
+
+/* From no product to 64 that hold every point, and back; a 65th can't be appended, and from none nothing be taken away. */
+static void index_of_most_products(void) {
+    static const fault too_many = {GLOSPRUMA_TOO_MANY_PRODUCTS, 0}, none_left = {GLOSPRUMA_EMPTY_FORM, 0};
+    static const uint8_t empty[] = {0x4E, 1, 0x45, 0, 0}, everywhere[] = {0x50};
+    bytes form = byte_list(empty, sizeof empty), product = byte_list(everywhere, sizeof everywhere), no_room = byte_room(0);
+    records list = record_room(2);
+    uint16_t count;
+    CHECK(indexed_is(build(form, list), no_fault, 1, 5, 0));
+    for (count = 1; count <= 64; count++) {
+        bytes room = byte_room(form.length + 1);
+        CHECK(indexed_is(append(form, product, list, room), no_fault, 1, room.length, count));
+        CHECK(list.records[0].count == count && list.records[0].first == 0 && list.records[1].count == count && list.records[1].first == 0);
+        free(form.bytes);
+        form = room;
+    }
+    CHECK(indexed_is(append(form, product, list, no_room), too_many, 0, 0, 0));
+    for (count = 64; count-- > 0;) {
+        bytes room = byte_room(form.length - 1);
+        CHECK(indexed_is(take_away(form, list, room), no_fault, 1, room.length, count));
+        CHECK(list.records[1].count == count && list.records[1].first == (count > 0 ? 0 : GLOSPRUMA_NO_PRODUCT));
+        free(form.bytes);
+        form = room;
+    }
+    CHECK(indexed_is(take_away(form, list, no_room), none_left, 0, 0, 0));
+    CHECK(form.length == sizeof empty && memcmp(form.bytes, empty, sizeof empty) == 0);
+    free(no_room.bytes);
+    free(form.bytes);
+    free(product.bytes);
+    free(list.records);
+}
+
+/* A product to be appended to P5's form, and how it is refused. */
+typedef struct {
+    uint8_t bytes[9];
+    size_t length;
+    fault expected;
+} refused_product;
+
+/* The product's refusals, with places from its 50; then a record that isn't the form's, in either number. */
+static void refused_changes(void) {
+    static const refused_product products[] = {
+        {{0}, 0, {GLOSPRUMA_BYTES_MISSING, 0}},
+        {{0x58, 1, 1, 0}, 4, {GLOSPRUMA_WRONG_KIND, 0}},
+        {{0x50, 0x50}, 2, {GLOSPRUMA_WRONG_KIND, 1}},
+        {{0x50, 0x58, 1, 1, 0, 0x45, 1, 0}, 8, {GLOSPRUMA_WRONG_KIND, 5}},
+        {{0x50, 0x58, 2, 1}, 4, {GLOSPRUMA_BYTES_MISSING, 4}},
+        {{0x50, 0x58, 2, 1, 0}, 5, {GLOSPRUMA_WRONG_FACTOR, 2}},
+        {{0x50, 0x58, 1, 1, 0, 0x58, 1, 2, 0}, 9, {GLOSPRUMA_NOT_CANONICAL, 6}},
+    };
+    static const fault other = {GLOSPRUMA_RECORDS, 0}, cut = {GLOSPRUMA_BYTES_MISSING, 18};
+    bytes form = byte_list(p5_form, sizeof p5_form), cut_form = byte_list(p5_form, 18), room = byte_room(40);
+    bytes product = byte_list(p5_product, sizeof p5_product);
+    records list = record_room(16);
+    size_t place;
+    CHECK(indexed_is(build(cut_form, list), cut, 0, 0, 0));
+    CHECK(records_are(list, NULL, 0));
+    CHECK(indexed_is(build(form, list), no_fault, 4, sizeof p5_form, 2));
+    CHECK(indexed_is(append(cut_form, product, list, room), cut, 0, 0, 0));
+    CHECK(indexed_is(take_away(cut_form, list, room), cut, 0, 0, 0));
+    for (place = 0; place < LENGTH(products); place++) {
+        bytes faulty = byte_list(products[place].bytes, products[place].length);
+        CHECK(indexed_is(append(form, faulty, list, room), products[place].expected, 0, 0, 0));
+        free(faulty.bytes);
+    }
+    for (place = 0; place < 32; place++) {
+        uint16_t *number = place % 2 == 0 ? &list.records[place / 2].count : &list.records[place / 2].first;
+        *number ^= 1;
+        CHECK(indexed_is(append(form, product, list, room), other, 0, 0, 0));
+        CHECK(indexed_is(take_away(form, list, room), other, 0, 0, 0));
+        *number ^= 1;
+    }
+    CHECK(records_are(list, p5_index, 16));
+    CHECK(bytes_as_lent(room));
+    free(form.bytes);
+    free(cut_form.bytes);
+    free(product.bytes);
+    free(list.records);
+}
+
 /* A table that every call which takes it refuses with one number. */
 typedef struct {
     size_t n;
@@ -755,12 +937,14 @@ static void layout(void) {
     CHECK(sizeof(glospruma_form_written) == 24);
     CHECK(sizeof(glospruma_points_read) == 32 && offsetof(glospruma_points_read, place) == 8);
     CHECK(sizeof(glospruma_form_rewritten) == 24 && offsetof(glospruma_form_rewritten, place) == 8);
+    CHECK(sizeof(glospruma_point_record) == 4 && offsetof(glospruma_point_record, first) == 2);
+    CHECK(sizeof(glospruma_indexed) == 40 && offsetof(glospruma_indexed, place) == 8 && offsetof(glospruma_indexed, products) == 32);
     CHECK(sizeof(glospruma_report_written) == 16);
 }
 
 /* Whether some call gives a number: 8 was that of all faults of bytes up to version 0.3, and is unused. */
 static int is_given(unsigned number) {
-    return number <= GLOSPRUMA_FIRST_POINT ? number != 8 : number >= GLOSPRUMA_WRONG_KIND && number <= GLOSPRUMA_TOO_MANY_PRODUCTS;
+    return (number <= GLOSPRUMA_EMPTY_FORM && number != 8) || number == GLOSPRUMA_RECORDS || glospruma_refusal_has_place(number);
 }
 
 /* The words of the refusals: each number has its own, and the numbers that no call gives have those of none. What they say is compared with the
@@ -807,6 +991,10 @@ static const named_case cases[] = {
     {"two tables side by side, in pieces", side_by_side_in_pieces},
     {"two tables side by side, everywhere", side_by_side_everywhere},
     {"refused comparisons", refused_comparisons},
+    {"index built", index_built},
+    {"index changed", index_changed},
+    {"index of most products", index_of_most_products},
+    {"refused changes of an index", refused_changes},
     {"refused tables", refused_tables},
     {"refused sizes", refused_sizes},
     {"cut bytes", cut_bytes},

@@ -1,5 +1,5 @@
 -- The claim about leads and parities by counts holds: the laws of crates `gf2` and `product` in 16 bits. That the common bits taken one by one have the
--- parity of `odd` is shown here. Read next: Examples.
+-- parity of `odd` is shown here. Read next: Indexed.
 use mathlib.Core.Path.{_≡_, refl, sym, ap, _∙_, subst}
 use mathlib.Core.Bool.{Bool, true, false, not, cond, Bool·beq}
 use mathlib.Core.Logic.{_↔_}

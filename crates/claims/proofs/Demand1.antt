@@ -3,7 +3,7 @@ use mathlib.Core.Path.{_≡_, refl, sym, ap, _∙_, subst}
 use mathlib.Core.Bool.{Bool, true, false, cond}
 use mathlib.Core.Logic.{_≢_}
 use mathlib.Core.List.{List, [], _∷_, map}
-use Prim.Native.Nat.{ℕ}
+use Prim.Native.Nat.{ℕ, _^_}
 use native.Mathlib.Decide.{ℕ-discrete}
 use lib.Dec.{eqb}
 use lib.ListN.{length}
@@ -23,6 +23,7 @@ use Rattle.stored.specs.Reading.{readPlace, readCall, readAnswer, readOnAfter, 
 use Rattle.compare.specs.Answer.{comparePlace, compareCall, compareAnswer, compareAfter}
 use Rattle.analysis.specs.Spaces.{linearSpaceCall, linearSpaceAnswer, completeCall, completeAnswer, completeAfter, analyseCall, analyseAnswer, analyseAfter}
 use Rattle.analysis.specs.Affine.{affineCall, affineAnswer, affineAfter}
+use Rattle.form.specs.Decoding.{formVariables, formProducts, decodeProduct}
 use Rattle.form_calls.specs.Reading.{pointsCall, pointsAnswer, pointsAfter, rewriteCall, rewriteAnswer, rewriteAfter}
 use Rattle.cubes.specs.Lists.{keep}
 use Rattle.cubes.specs.Listing.{listingCall, listingAnswer, listingAfter}
@@ -30,7 +31,12 @@ use Rattle.listing.specs.Answers.{callOf}
 use Rattle.writing.specs.Writing.{writeCall, writeAnswer, writeAfter}
 use Rattle.report.proofs.Answering.{report-refused, report-read}
 use Rattle.report.specs.Answer.{reportCall, reportAnswer, reportAfter}
-use Rattle.claims.specs.Demand1.{Room, AllZero, Decides, Printed, Demand1}
+use Rattle.index.specs.declared.PointRecord.{PointRecord}
+use Rattle.index.specs.Changes.{appendedAt, removedAt}
+use Rattle.index.specs.Answers.{buildCall, buildAnswer, appendTo, appendAnswer, appendAfter, appendListAfter, lastProduct, removeFrom, removeAnswer, removeAfter, removeListAfter}
+use Rattle.index.proofs.InPlace.{first-front}
+use Rattle.index.proofs.Accepting.{build-left, build-refused, append-counted, append-refused, remove-counted, remove-refused}
+use Rattle.claims.specs.Demand1.{Room, LentList, AllZero, Decides, appendedRecords, removedRecords, Printed, Demand1}
 
 -- ---- any call that decides by its tests
 
@@ -107,10 +113,26 @@ report-printed bytes = record {
   refuses = report-refused bytes;
 }
 
+-- ---- the lent lists
+
+append-lent : (form product : List ℕ) (list : List PointRecord) (room : List ℕ)
+    → LentList (appendAnswer form product list room .refusal) (appendedRecords form product list) list (appendListAfter form product list room)
+append-lent form product list room = record {
+  accepts = λ z. append-counted form product list room z ∙ first-front (appendedAt (length (formProducts form)) (decodeProduct product)) (2 ^ formVariables form) list;
+  refuses = append-refused form product list room;
+}
+
+remove-lent : (form : List ℕ) (list : List PointRecord) (room : List ℕ)
+    → LentList (removeAnswer form list room .refusal) (removedRecords form list) list (removeListAfter form list room)
+remove-lent form list room = record {
+  accepts = λ z. remove-counted form list room z ∙ first-front (removedAt (lastProduct form)) (2 ^ formVariables form) list;
+  refuses = remove-refused form list room;
+}
+
 -- ---- the calls
 
 pub demand1 : Demand1
-unfolding holds keep hasPlace tableTests readPlace comparePlace readAnswer readOnAfter readFreeAfter compareAnswer compareAfter linearSpaceAnswer completeAnswer completeAfter analyseAnswer analyseAfter affineAnswer affineAfter listingAnswer listingAfter pointsAnswer pointsAfter rewriteAnswer rewriteAfter writeAnswer writeAfter reportAnswer reportAfter
+unfolding holds keep hasPlace tableTests readPlace comparePlace readAnswer readOnAfter readFreeAfter compareAnswer compareAfter linearSpaceAnswer completeAnswer completeAfter analyseAnswer analyseAfter affineAnswer affineAfter listingAnswer listingAfter pointsAnswer pointsAfter rewriteAnswer rewriteAfter writeAnswer writeAfter reportAnswer reportAfter buildAnswer appendAnswer appendAfter removeAnswer removeAfter
 demand1 = record {
   read-table = λ bytes on free. decides _ _ _ _ (readCall bytes (length on) (length free)) _ refl refl refl refl refl (λ k. refl) refl (λ k. refl);
   compare = λ left right first room. decides _ _ _ _ (compareCall left right first room) _ refl refl refl refl refl (λ k. refl) refl (λ k. refl);
@@ -123,6 +145,12 @@ demand1 = record {
   write-form = λ n on free room. decides _ _ _ _ (writeCall n on free room) _ refl refl refl refl refl (λ k. ap (faultAt k) (no-places (writeCall n on free room .tests) refl)) refl (λ k. refl);
   form-points = λ bytes room. decides _ _ _ _ (pointsCall bytes room) _ refl refl refl refl refl (λ k. refl) refl (λ k. refl);
   form-rewrite = λ bytes room. decides _ _ _ _ (rewriteCall bytes room) _ refl refl refl refl refl (λ k. refl) refl (λ k. refl);
+  index-build = λ form list. decides _ _ _ _ (buildCall form (length list)) _ refl refl refl refl refl (λ k. refl) refl (λ k. refl);
+  index-build-list = λ form list. record { accepts = build-left form list; refuses = build-refused form list };
+  index-append = λ form product list room. decides _ _ _ _ (appendTo form product list room) _ refl refl refl refl refl (λ k. refl) refl (λ k. refl);
+  index-append-list = append-lent;
+  index-remove = λ form list room. decides _ _ _ _ (removeFrom form list room) _ refl refl refl refl refl (λ k. refl) refl (λ k. refl);
+  index-remove-list = remove-lent;
   report = λ bytes room. decides _ _ _ _ (reportCall bytes room) _ refl refl refl refl refl (λ k. ap (faultAt k) (no-places (reportCall bytes room .tests) refl)) refl (λ k. refl);
   printed = report-printed;
 }

@@ -1,24 +1,30 @@
 -- Document 01, "Table of proved examples": P1 to P9, and three tables more for document 02, No. 4, in one table under one statement, computed from the
--- answers and rooms that the contracts of the public calls name.
+-- answers and rooms that the contracts of the public calls name; and a run of calls for No. 5.
 use mathlib.Core.Path.{_≡_, refl}
 use mathlib.Core.List.{List, [], _∷_, map, flatMap}
 use Prim.Native.Nat.{ℕ}
-use lib.ListN.{take, replicate}
+use lib.ListN.{take, getD, replicate}
 use Rattle.gf2.specs.Bits.{bit, halvings, lead}
 use Rattle.gf2.specs.Finite.{holds, all, select}
 use Rattle.gf2.specs.Parity.{oddIn, odd}
 use Rattle.gf2.specs.Basis.{clear, reduce, place, join, insert, inserts, reduces, irreducible, reducedBasis, isLead, placesAt}
 use Rattle.basis.specs.Short.{listed}
 use Rattle.basis.specs.Reduced.{vectorsOf}
-use Rattle.table.specs.Refusal.{firstFault}
+use Rattle.table.specs.Refusal.{firstFault, firstPlace}
 use Rattle.table.specs.Table.{tableTests, badCount, outside, notAbove, unordered, shared}
+use Rattle.records.specs.Kinds.{headOf}
+use Rattle.records.specs.Walks.{walkBy}
 use Rattle.subspaces.specs.Spaces.{spacesOf, spacesFrom, largest}
 use Rattle.closure_set.specs.ClosureSet.{closes, closureSet, largestSpace, spread}
 use Rattle.space.specs.Closure.{closed, linearSpace, degree}
 use Rattle.space.specs.Completion.{allOn, simplyCompleted, completed, completedPoints}
 use Rattle.space.specs.Restriction.{equation, equations, number, project, clean, restriction}
 use Rattle.space.specs.Affine.{directions, leastPoint, projection}
+use Rattle.product.specs.Lowest.{evenHalvings, lowest}
+use Rattle.product.specs.Product.{factorAt, productAt, fits, apartMasks, apart, agrees}
 use Rattle.form.specs.Encoding.{encodeFactors, encodeProducts, encodeForm}
+use Rattle.form.specs.Decoding.{partsFrom}
+use Rattle.form.specs.Walk.{walkedForm, walkedProduct}
 use Rattle.cubes.specs.Lists.{keep}
 use Rattle.cubes.specs.Cubes.{spans, pointsOf}
 use Rattle.cubes.specs.Candidates.{bases, candidatesOf, candidatesFrom, candidates}
@@ -34,6 +40,11 @@ use Rattle.cover.specs.WrittenForm.{writtenProduct, formOf, writtenForm, formSi
 use Rattle.writing.specs.Writing.{formBytes, writeAnswer, writeAfter}
 use Rattle.analysis.specs.Spaces.{completeAnswer, completeAfter, analyseAnswer, analyseAfter}
 use Rattle.analysis.specs.Affine.{affineAnswer, affineAfter}
+use Rattle.index.specs.declared.PointRecord.{PointRecord}
+use Rattle.index.specs.Records.{pointRecord, noRecord, holders, firstFrom, tabulate, formIndex, sameRecord, agreesUpto}
+use Rattle.index.specs.Changes.{mapFirst}
+use Rattle.index.specs.Answers.{buildAnswer, buildAfter, appendedBytes, appendAnswer, appendAfter, appendListAfter, removedBytes, removeAnswer, removeAfter, removeListAfter}
+use Rattle.claims.specs.Indexed.{Kept, Changing, appending, removing, numbersReturned, built, keptBy}
 
 -- ---- what the calls are asked, and what they reply
 
@@ -126,3 +137,40 @@ examples =
 pub computed : map (λ e. reply (e .asked)) examples ≡ map (λ e. e .expected) examples
 unfolding examples example five fiveForm sixRecords reply completeAnswer completeAfter analyseAnswer analyseAfter affineAnswer affineAfter handedOver writeAnswer writeAfter formBytes formSizeFault completedPoints holds all select bit halvings lead oddIn odd clear reduce place join insert inserts reduces irreducible reducedBasis isLead placesAt firstFault tableTests badCount outside notAbove unordered shared spacesOf spacesFrom largest closes closureSet largestSpace spread closed linearSpace degree allOn simplyCompleted completed equation equations number project clean restriction directions leastPoint projection encodeFactors encodeProducts encodeForm flatMap keep spans pointsOf bases candidatesOf candidatesFrom candidates everyPoint somePoint cannotGrow isPrime recordOf recordsOf listingFault passage listing listingAnswer listingAfter placeFactor canonicalProduct substituteMask substituteFactor substituteProduct primesOf covered firstHolding takenFor takenThrough chosen writtenProduct formOf writtenForm
 computed = refl
+
+-- ---- an index kept by calls (document 02, No. 5)
+
+-- A form of two variables whose product holds points 1 and 3, and a list of five records, one more than it has points.
+pub oneProduct : List ℕ
+oneProduct = 0x4E ∷ 0x02 ∷ 0x50 ∷ 0x58 ∷ 0x01 ∷ 0x01 ∷ 0x00 ∷ 0x45 ∷ 0x01 ∷ 0x00 ∷ []
+
+pub unused : List PointRecord
+unused = replicate 5 (pointRecord 7 7)
+
+-- A product that holds 2 and 3 is appended, one whose mask is missing is refused, the last is taken away without room, then with it, then the first, and
+-- then there is none. What is handed on after three, four, five and six calls.
+pub calls : List Changing
+calls =
+    appending (0x50 ∷ 0x58 ∷ 0x01 ∷ 0x02 ∷ 0x00 ∷ []) byteRoom
+    ∷ appending (0x50 ∷ 0x58 ∷ 0x01 ∷ []) byteRoom
+    ∷ removing []
+    ∷ removing byteRoom
+    ∷ removing byteRoom
+    ∷ removing byteRoom
+    ∷ []
+
+abbrev pub leftAfter : ℕ → Kept
+leftAfter k = keptBy (built oneProduct unused) (take k calls)
+
+abbrev pub kept : List ℕ → List PointRecord → Kept
+kept bytes list = record { form = bytes; list = list }
+
+pub kept-computed :
+    (leftAfter 3 ≡ kept (0x4E ∷ 0x02 ∷ 0x50 ∷ 0x58 ∷ 0x01 ∷ 0x01 ∷ 0x00 ∷ 0x50 ∷ 0x58 ∷ 0x01 ∷ 0x02 ∷ 0x00 ∷ 0x45 ∷ 0x02 ∷ 0x00 ∷ [])
+    (noRecord ∷ pointRecord 1 0 ∷ pointRecord 1 1 ∷ pointRecord 2 0 ∷ pointRecord 7 7 ∷ []))
+    × (leftAfter 4 ≡ built oneProduct unused)
+    × (leftAfter 5 ≡ kept (0x4E ∷ 0x02 ∷ 0x45 ∷ 0x00 ∷ 0x00 ∷ []) (noRecord ∷ noRecord ∷ noRecord ∷ noRecord ∷ pointRecord 7 7 ∷ []))
+    × (leftAfter 6 ≡ leftAfter 5)
+    × (map (λ k. numbersReturned (leftAfter k) (getD calls k (removing [])) .refusal) (0 ∷ 1 ∷ 2 ∷ 3 ∷ 4 ∷ 5 ∷ []) ≡ 0 ∷ 21 ∷ 7 ∷ 0 ∷ 0 ∷ 12 ∷ [])
+unfolding oneProduct unused calls keptBy walkedForm walkedProduct walkBy headOf badCount fits agrees apart apartMasks lowest evenHalvings bit halvings oddIn odd all firstFault firstPlace factorAt productAt encodeFactors encodeProducts encodeForm partsFrom holders firstFrom tabulate formIndex sameRecord agreesUpto mapFirst buildAnswer buildAfter appendedBytes appendAnswer appendAfter appendListAfter removedBytes removeAnswer removeAfter removeListAfter
+kept-computed = (refl, refl, refl, refl, refl)

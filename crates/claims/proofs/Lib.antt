@@ -9,5 +9,6 @@ pub mod Faults
 pub mod FaultCalls
 pub mod FreePoints
 pub mod Bits
+pub mod Indexed
 pub mod Examples
 pub mod Rooms

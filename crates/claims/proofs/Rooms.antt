@@ -27,13 +27,18 @@ use Rattle.space.specs.Restriction.{project, equations}
 use Rattle.space.specs.Affine.{directions, projection}
 use Rattle.space.proofs.Restriction.{linear-equations, restriction-length}
 use Rattle.product.proofs.Points.{canonical-length}
-use Rattle.form.specs.Form.{Form, ValidForm, formAt, formPoints}
+use Rattle.form.specs.Form.{maxProducts, Form, ValidForm, formAt, formPoints}
 use Rattle.form.specs.Encoding.{encodeProducts, encodeForm}
-use Rattle.form.specs.Decoding.{decodeForm}
-use Rattle.form.specs.Refusal.{formFault}
+use Rattle.form.specs.Decoding.{formVariables, formProducts, decodeForm}
+use Rattle.form.specs.Refusal.{formFault, productFault}
 use Rattle.form_calls.specs.Reading.{pointsRead}
 use Rattle.form.proofs.Encodings.{form-valid, rewritten-same}
 use Rattle.form.proofs.Accepting.{accepted-form}
+use Rattle.form.proofs.Alone.{accepted-product}
+use Rattle.index.specs.Records.{formIndex}
+use Rattle.index.specs.Answers.{appendedBytes, removedBytes}
+use Rattle.index.proofs.Lists.{index-length}
+use Rattle.index.proofs.Accepting.{appended-sound, appended-again, removed-sound, removed-again}
 use Rattle.cubes.specs.Lists.{keep}
 use Rattle.cubes.specs.Cubes.{Candidate, candidate, degree, IsCandidate}
 use Rattle.cubes.specs.Candidates.{Before, bases, vectors, candidates}
@@ -112,6 +117,21 @@ read-form-room : (bytes : List ℕ) → Bytes bytes → formFault bytes ≡ 0 �
 read-form-room bytes b e =
     let i = accepted-form bytes .0 e in
     omega (arith, form-room (decodeForm bytes) (form-valid bytes i), ap length (rewritten-same bytes b i))
+
+appended-room : (form product : List ℕ) → formFault form ≡ 0 → productFault (formVariables form) product ≡ 0 → length (formProducts form) < maxProducts
+    → length (appendedBytes form product) ≤ 3141
+appended-room form product e f few =
+    let sound = appended-sound form product (accepted-form form .0 e) (accepted-product (formVariables form) product .0 f) few in
+    omega (arith, form-room (decodeForm (appendedBytes form product)) (form-valid (appendedBytes form product) sound), ap length (appended-again form product))
+
+removed-room : (form : List ℕ) → formFault form ≡ 0 → 0 < length (formProducts form) → length (removedBytes form) ≤ 3141
+removed-room form e some =
+    let sound = removed-sound form (accepted-form form .0 e) some in
+    omega (arith, form-room (decodeForm (removedBytes form)) (form-valid (removedBytes form) sound), ap length (removed-again form))
+
+-- An index has a record for each point.
+index-room : (form : List ℕ) → formFault form ≡ 0 → length (formIndex (decodeForm form)) ≤ 4096
+index-room form e = omega (arith, index-length (decodeForm form), pow-mono (form-valid form (accepted-form form .0 e) .few))
 
 -- ---- primes
 
@@ -234,9 +254,12 @@ rooms-suffice = record {
   analyse = analyse-room;
   affine = affine-room;
   form-points = form-points-room;
+  index = index-room;
   written = written-fits;
   form = read-form-room;
   form-again = λ bytes e. form-room (decodeForm bytes) (form-valid bytes (accepted-form bytes .0 e));
+  appended = appended-room;
+  removed = removed-room;
   report = report-fits;
   listing = λ t small. records-room t small (endOf t);
   listing-ends = listing-end;

@@ -2,7 +2,7 @@
 -- found of each mask and point is that of their common bits taken one by one. A single claim about every vector, mask and point of 16 bits.
 --
 -- It is a claim about the running functions: it is said of the contracts themselves, that of `gf2::lead` and of each other function that is named below.
--- No other function of the library counts zeros of a vector or mask, or adds up a parity. Read next: Rooms.
+-- No other function of the library counts zeros of a vector or mask, or adds up a parity. Read next: Indexed.
 use mathlib.Core.Path.{_≡_}
 use mathlib.Core.Bool.{Bool, true, false, not, cond, _&&_, Bool·beq}
 use mathlib.Core.Logic.{_↔_}

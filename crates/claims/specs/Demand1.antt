@@ -6,13 +6,13 @@ use mathlib.Core.Path.{_≡_}
 use mathlib.Core.Bool.{false}
 use mathlib.Core.Logic.{_≢_}
 use mathlib.Core.List.{List, [], _∷_, _++_, map}
-use Prim.Native.Nat.{ℕ}
-use lib.ListN.{length, replicate}
+use Prim.Native.Nat.{ℕ, _^_}
+use lib.ListN.{length, replicate, take}
 use Rattle.gf2.specs.Finite.{holds}
 use Rattle.basis.specs.declared.Basis.{Basis}
 use Rattle.basis.specs.declared.ShortList.{ShortList}
 use Rattle.table.specs.declared.Fault.{Fault}
-use Rattle.table.specs.Refusal.{hasPlace, faultAt, First, Exact, variablesFault, pointFault, orderFault, sharedFault, sizeFault, affineFault, roomFault, placeFault, countsFault, firstPointFault}
+use Rattle.table.specs.Refusal.{hasPlace, faultAt, First, Exact, variablesFault, pointFault, orderFault, sharedFault, sizeFault, affineFault, roomFault, placeFault, countsFault, firstPointFault, emptyFormFault, recordsFault, tooManyProductsFault}
 use Rattle.table.specs.Decision.{front, Decision}
 use Rattle.table.specs.Table.{shared}
 use Rattle.stored.specs.declared.TableRead.{TableRead}
@@ -28,7 +28,8 @@ use Rattle.analysis.specs.declared.Analysis.{Analysis}
 use Rattle.analysis.specs.declared.AffineSpace.{AffineSpace}
 use Rattle.analysis.specs.Spaces.{linearSpaceCall, linearSpaceAnswer, completeCall, completeAnswer, completeAfter, completedRestriction, analyseCall, analyseAnswer, analyseAfter}
 use Rattle.analysis.specs.Affine.{affineProjection, affineCall, affineAnswer, affineAfter}
-use Rattle.form.specs.Refusal.{formFaults}
+use Rattle.form.specs.Decoding.{formVariables, formProducts, decodeForm, decodeProduct}
+use Rattle.form.specs.Refusal.{formFaults, productFaults}
 use Rattle.form_calls.specs.declared.FormPoints.{FormPoints}
 use Rattle.form_calls.specs.declared.FormRewrite.{FormRewrite}
 use Rattle.form_calls.specs.Reading.{pointsRead, pointsCall, pointsAnswer, pointsAfter, rewritten, rewriteCall, rewriteAnswer, rewriteAfter}
@@ -43,6 +44,11 @@ use Rattle.table_report.specs.Text.{tableText}
 use Rattle.report.specs.declared.ReportWritten.{ReportWritten}
 use Rattle.report.specs.Report.{reportText}
 use Rattle.report.specs.Answer.{reportCall, reportAnswer, reportAfter}
+use Rattle.index.specs.declared.PointRecord.{PointRecord}
+use Rattle.index.specs.declared.Indexed.{Indexed}
+use Rattle.index.specs.Records.{formIndex}
+use Rattle.index.specs.Changes.{appendedAt, removedAt, mapFirst}
+use Rattle.index.specs.Answers.{buildCall, buildAnswer, buildAfter, appendedBytes, appendTo, appendAnswer, appendAfter, appendListAfter, lastProduct, removedBytes, removeFrom, removeAnswer, removeAfter, removeListAfter}
 
 -- ---- one call
 
@@ -58,6 +64,14 @@ storedOrder = tableFaults ++ (variablesFault ∷ pointFault ∷ orderFault ∷ [
 abbrev pub comparisonOrder : List ℕ
 comparisonOrder = storedOrder ++ (storedOrder ++ (countsFault ∷ firstPointFault ∷ []))
 
+-- The orders of the calls that keep an index (document 02, No. 5): the form's own refusals, the product's own, the two of the list, one of the number of products,
+-- and the room for the new form.
+abbrev pub appendOrder : List ℕ
+appendOrder = formFaults ++ (productFaults ++ (roomFault ∷ recordsFault ∷ tooManyProductsFault ∷ roomFault ∷ []))
+
+abbrev pub removeOrder : List ℕ
+removeOrder = formFaults ++ (roomFault ∷ recordsFault ∷ emptyFormFault ∷ roomFault ∷ [])
+
 -- A lent room: the list that an accepted call writes to it, what it held when it was lent, and what it holds as the call returns.
 pub record Room : Type 0 where
   pub written : List ℕ
@@ -66,6 +80,11 @@ pub record Room : Type 0 where
 
 abbrev pub lent : List ℕ → List ℕ → List ℕ → Room
 lent written before after = record { written = written; before = before; after = after }
+
+-- A lent list of records, by the refusal number of its call: accepted, it has the records written at its front, and the rest is as lent; refused, all is.
+pub record LentList (refusal : ℕ) (written before after : List PointRecord) : Type 0 where
+  pub accepts : refusal ≡ 0 → after ≡ front written before
+  pub refuses : refusal ≢ 0 → after ≡ before
 
 -- All of these numbers are 0.
 abbrev pub AllZero : List ℕ → Type 0
@@ -131,6 +150,19 @@ rewriteOthers r = r .length ∷ []
 abbrev pub reportOthers : ReportWritten → List ℕ
 reportOthers r = r .length ∷ []
 
+abbrev pub indexedOthers : Indexed → List ℕ
+indexedOthers r = r .variables ∷ r .length ∷ r .products ∷ []
+
+-- ---- the records that a change of an index writes
+
+-- The first 2 ^ n of the list, each as it was or, at a point of the product, counted in or out.
+abbrev pub appendedRecords : List ℕ → List ℕ → List PointRecord → List PointRecord
+appendedRecords form product list =
+    take (2 ^ formVariables form) (mapFirst (appendedAt (length (formProducts form)) (decodeProduct product)) (2 ^ formVariables form) list)
+
+abbrev pub removedRecords : List ℕ → List PointRecord → List PointRecord
+removedRecords form list = take (2 ^ formVariables form) (mapFirst (removedAt (lastProduct form)) (2 ^ formVariables form) list)
+
 -- ---- the printed report
 
 -- The tests of a stored table decide what is printed: a table refused prints `refused N`, with ` at P` where N has a place, and nothing else. Where only
@@ -189,6 +221,25 @@ pub record Demand1 : Type 0 where
       → Decides refusalOrder (20 ∷ 21 ∷ 22 ∷ 23 ∷ 24 ∷ 25 ∷ 26 ∷ 27 ∷ 7 ∷ []) (λ r. faultAt (r .refusal) (r .place)) rewriteOthers
       (rewriteCall bytes room) (rewriteAnswer bytes room)
       (lent (rewritten bytes) room (rewriteAfter bytes room) ∷ [])
+  -- The calls that keep an index: the second line of each is its lent list.
+  pub index-build : (form : List ℕ) (list : List PointRecord)
+      → Decides refusalOrder (20 ∷ 21 ∷ 22 ∷ 23 ∷ 24 ∷ 25 ∷ 26 ∷ 27 ∷ 7 ∷ []) (λ r. faultAt (r .refusal) (r .place)) indexedOthers
+      (buildCall form (length list)) (buildAnswer form list)
+      []
+  pub index-build-list : (form : List ℕ) (list : List PointRecord)
+      → LentList (buildAnswer form list .refusal) (formIndex (decodeForm form)) list (buildAfter form list)
+  pub index-append : (form product : List ℕ) (list : List PointRecord) (room : List ℕ)
+      → Decides appendOrder (20 ∷ 21 ∷ 22 ∷ 23 ∷ 24 ∷ 25 ∷ 26 ∷ 27 ∷ 20 ∷ 21 ∷ 23 ∷ 24 ∷ 7 ∷ 17 ∷ 27 ∷ 7 ∷ []) (λ r. faultAt (r .refusal) (r .place)) indexedOthers
+      (appendTo form product list room) (appendAnswer form product list room)
+      (lent (appendedBytes form product) room (appendAfter form product list room) ∷ [])
+  pub index-append-list : (form product : List ℕ) (list : List PointRecord) (room : List ℕ)
+      → LentList (appendAnswer form product list room .refusal) (appendedRecords form product list) list (appendListAfter form product list room)
+  pub index-remove : (form : List ℕ) (list : List PointRecord) (room : List ℕ)
+      → Decides removeOrder (20 ∷ 21 ∷ 22 ∷ 23 ∷ 24 ∷ 25 ∷ 26 ∷ 27 ∷ 7 ∷ 17 ∷ 12 ∷ 7 ∷ []) (λ r. faultAt (r .refusal) (r .place)) indexedOthers
+      (removeFrom form list room) (removeAnswer form list room)
+      (lent (removedBytes form) room (removeAfter form list room) ∷ [])
+  pub index-remove-list : (form : List ℕ) (list : List PointRecord) (room : List ℕ)
+      → LentList (removeAnswer form list room .refusal) (removedRecords form list) list (removeListAfter form list room)
   -- The call that gives the report is refused only where the text is longer than the room: a refused table has a text too, which is `printed`.
   pub report : (bytes room : List ℕ)
       → Decides refusalOrder (7 ∷ []) (λ r. unplaced (r .refusal)) reportOthers

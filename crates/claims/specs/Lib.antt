@@ -7,4 +7,5 @@ pub mod Compared
 pub mod Faults
 pub mod FreePoints
 pub mod Bits
+pub mod Indexed
 pub mod Rooms

@@ -3,7 +3,7 @@
 use mathlib.Core.Path.{_≡_}
 use mathlib.Core.Bool.{true, false}
 use mathlib.Core.List.{List, []}
-use Prim.Native.Nat.{ℕ, _≤_}
+use Prim.Native.Nat.{ℕ, _≤_, _<_}
 use lib.ListN.{length}
 use Rattle.table.specs.Table.{Accepted}
 use Rattle.records.specs.Kinds.{Bytes}
@@ -11,7 +11,9 @@ use Rattle.stored.specs.Marks.{storedOn, storedFree}
 use Rattle.stored.specs.Stored.{storedFault}
 use Rattle.compare.specs.Answer.{tableSize, compareAnswer}
 use Rattle.space.specs.Completion.{completedPoints}
-use Rattle.form.specs.Refusal.{formFault}
+use Rattle.form.specs.Form.{maxProducts}
+use Rattle.form.specs.Decoding.{formVariables, formProducts, decodeForm}
+use Rattle.form.specs.Refusal.{formFault, productFault}
 use Rattle.form_calls.specs.Reading.{pointsRead, rewritten}
 use Rattle.cubes.specs.Records.{maxListed, recordsOf}
 use Rattle.cubes.specs.Listing.{Table, Call, accepted, listingAnswer}
@@ -19,6 +21,8 @@ use Rattle.cubes.specs.Calls.{primesBehind, endOf}
 use Rattle.cover.specs.WrittenForm.{formSizeFault}
 use Rattle.writing.specs.Writing.{formBytes}
 use Rattle.report.specs.Report.{reportText}
+use Rattle.index.specs.Records.{formIndex}
+use Rattle.index.specs.Answers.{appendedBytes, removedBytes}
 use Rattle.analysis.specs.Spaces.{completedRestriction}
 use Rattle.analysis.specs.Affine.{affineProjection}
 
@@ -32,11 +36,16 @@ pub record RoomsSuffice : Type 0 where
   pub analyse : (n : ℕ) (on free : List ℕ) → Accepted n on free → length (completedRestriction n on free) ≤ 4096
   pub affine : (n : ℕ) (on : List ℕ) → Accepted n on [] → length (affineProjection n on) ≤ 4096
   pub form-points : (bytes : List ℕ) → formFault bytes ≡ 0 → length (pointsRead bytes) ≤ 4096
+  -- Also the records of an index, one for each point of the form.
+  pub index : (form : List ℕ) → formFault form ≡ 0 → length (formIndex (decodeForm form)) ≤ 4096
   -- WRITTEN_ROOM: the bytes of the form that is written for a table with at most six variables left.
   pub written : (n : ℕ) (on free : List ℕ) → Accepted n on free → formSizeFault n on free ≡ false → length (formBytes n on free) ≤ 1555
-  -- FORM_ROOM: the bytes of a form that is accepted, and those that are written from what was read.
+  -- FORM_ROOM: the bytes of a form that is accepted, those that are written from what was read, and those of the form once a product is appended or taken away.
   pub form : (bytes : List ℕ) → Bytes bytes → formFault bytes ≡ 0 → length bytes ≤ 3141
   pub form-again : (bytes : List ℕ) → formFault bytes ≡ 0 → length (rewritten bytes) ≤ 3141
+  pub appended : (form product : List ℕ) → formFault form ≡ 0 → productFault (formVariables form) product ≡ 0 → length (formProducts form) < maxProducts
+      → length (appendedBytes form product) ≤ 3141
+  pub removed : (form : List ℕ) → formFault form ≡ 0 → 0 < length (formProducts form) → length (removedBytes form) ≤ 3141
   -- REPORT_ROOM: the report of any bytes.
   pub report : (bytes : List ℕ) → length (reportText bytes) ≤ 24576
   -- LISTING_ROOM: the records of all primes of a table of at most six variables; so one call from place 0 with an allowance for every candidate

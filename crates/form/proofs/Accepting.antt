@@ -1,4 +1,4 @@
--- Laws of specs.Refusal: bytes that are not refused are a form (`accepted-form`), and a form has its first record. Read next: Examples.
+-- Laws of specs.Refusal: bytes that are not refused are a form (`accepted-form`), and a form has its first record. Read next: Alone.
 use mathlib.Core.Path.{_≡_, refl, sym, ap, _∙_}
 use mathlib.Core.Bool.{true}
 use mathlib.Core.Logic.{inl, inr, _↔_}

@@ -41,7 +41,7 @@ parts-factor byte constant low high rest q = rw q
 -- ---- what is written is read
 
 -- A factor is the one that its bytes give.
-same-factor : (f : Factor) → factor (f .constant) (wordOf (lowByte (f .mask)) (highByte (f .mask))) ≡ f
+pub same-factor : (f : Factor) → factor (f .constant) (wordOf (lowByte (f .mask)) (highByte (f .mask))) ≡ f
 same-factor f = ap (factor (f .constant)) (word-of-bytes (f .mask))
 
 factors-laying : (n : ℕ) (fs : List Factor) (rest : List ℕ) (products : ℕ) (earlier : List Factor) (all : ℕ) → products ≢ 0 → AllFit n fs → canonical (earlier ++ fs) ≡ true
@@ -195,7 +195,7 @@ laying-written {all = all} b (holds {byte = byte} {constant = constant} {low = l
     rw (parts-factor byte constant low high rest q, written-factor (factor constant (wordOf low high)) (partsFrom 0 rest) all) (cc)
 
 -- No factor stands before the first product.
-laying-first : {n : ℕ} {rest : List ℕ} {products : ℕ} {earlier : List Factor} {all : ℕ} → products ≡ 0 → Laying n rest products earlier all → partsFrom 0 rest .factors ≡ []
+pub laying-first : {n : ℕ} {rest : List ℕ} {products : ℕ} {earlier : List Factor} {all : ℕ} → products ≡ 0 → Laying n rest products earlier all → partsFrom 0 rest .factors ≡ []
 laying-first z (ends {byte = byte} {low = low} {high = high} q w a) = ap (λ (p : Parts). p .factors) (parts-end byte (low ∷ high ∷ []) q)
 laying-first z (begins {byte = byte} {rest = rest} q h r) = ap (λ (p : Parts). p .factors) (parts-product byte rest q)
 laying-first z (holds q nz f a r) = absurd (nz z)
@@ -219,7 +219,7 @@ rewritten-same bytes b h = as-written b (form-laid bytes h .1)
 
 -- ---- exactly the encodings are accepted
 
-factors-bytes : (n : ℕ) (fs : List Factor) (rest : List ℕ) → n ≤ maxVariables → AllFit n fs → Bytes rest → Bytes (encodeFactors fs ++ rest)
+pub factors-bytes : (n : ℕ) (fs : List Factor) (rest : List ℕ) → n ≤ maxVariables → AllFit n fs → Bytes rest → Bytes (encodeFactors fs ++ rest)
 unfolding encodeFactors
 factors-bytes n [] rest few fit b x k = b x k
 factors-bytes n (f ∷ fs) rest few fit b x (inl e) = omega arith

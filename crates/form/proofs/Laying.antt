@@ -79,7 +79,7 @@ module _ (n products : ℕ) (earlier : List Factor) (place all : ℕ) (rest : Li
       let a = kept (Whole m) (NotCanonical (place + 1)) refl next (agrees earlier (factorOf rest)) (f .1) in
       (b .1, f .0, a .0, sym (ap next (b .0)) ∙ a .1)
 
-  factor-goes : goOn (factorStep n products earlier 3 place rest) next ≡ Laid all
+  pub factor-goes : goOn (factorStep n products earlier 3 place rest) next ≡ Laid all
       → (products ≢ 0) × ((3 ≤ length rest) × (fits n (factorOf rest) ≡ true) × (agrees earlier (factorOf rest) ≡ true) × (next 3 ≡ Laid all))
   factor-goes e =
       let h = left (judgeStep (bodyStep 3 place rest) n earlier place (factorOf rest)) (WrongKind place) refl next (eqb products 0) e in

@@ -5,4 +5,5 @@ pub mod Ruling
 pub mod Laying
 pub mod Encodings
 pub mod Accepting
+pub mod Alone
 pub mod Examples

@@ -1,5 +1,7 @@
 -- The form that the bytes of an accepted input stand for (document 01, "The written form"). Read next: Walk.
+use mathlib.Core.Path.{_≡_}
 use mathlib.Core.Bool.{cond}
+use mathlib.Core.Logic.{_≢_}
 use mathlib.Core.List.{List, [], _∷_}
 use Prim.Native.Nat.{ℕ, zero, suc}
 use lib.Dec.{eqb}
@@ -50,3 +52,13 @@ formProducts bytes = partsFrom 0 (drop 2 bytes) .products
 -- The form that the bytes stand for. That its encoding is these bytes, where they are accepted, is `rewritten-same`.
 abbrev pub decodeForm : List ℕ → Form
 decodeForm bytes = record { variables = formVariables bytes; products = formProducts bytes }
+
+-- The product that the bytes of a product alone stand for: the factors after its 50 (document 02, No. 5).
+abbrev pub decodeProduct : List ℕ → List Factor
+decodeProduct bytes = partsFrom 0 (drop 1 bytes) .factors
+
+-- Whole records of factors stand at the front of the bytes, up to a record of another kind or the end of the bytes.
+pub data WholeFactors : List ℕ → Type 0 where
+  over : WholeFactors []
+  other : {byte : ℕ} {rest : List ℕ} → byte ≢ factorKind → WholeFactors (byte ∷ rest)
+  further : {byte constant low high : ℕ} {rest : List ℕ} → byte ≡ factorKind → WholeFactors rest → WholeFactors (byte ∷ constant ∷ low ∷ high ∷ rest)

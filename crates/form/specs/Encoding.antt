@@ -5,7 +5,7 @@ use mathlib.Core.List.{List, [], _∷_, _++_}
 use Prim.Native.Nat.{ℕ}
 use lib.ListN.{length}
 use Rattle.records.specs.Kinds.{variablesKind, productKind, factorKind, lowByte, highByte, encodeEnd}
-use Rattle.product.specs.Product.{Factor}
+use Rattle.product.specs.Product.{Factor, AllFit, Canonical}
 use Rattle.form.specs.Form.{Form, ValidForm}
 
 -- The body of a factor: its constant, then its mask, low byte first.
@@ -22,6 +22,10 @@ unfoldable pub encodeProducts : List (List Factor) → List ℕ
 encodeProducts [] = []
 encodeProducts (p ∷ ps) = productKind ∷ (encodeFactors p ++ encodeProducts ps)
 
+-- A product alone: 50 and its factors (document 02, No. 5).
+abbrev pub encodeProduct : List Factor → List ℕ
+encodeProduct p = productKind ∷ encodeFactors p
+
 -- A form: 4E and n, its products, 45 and their number.
 unfoldable pub encodeForm : Form → List ℕ
 encodeForm f = variablesKind ∷ f .variables ∷ (encodeProducts (f .products) ++ encodeEnd (length (f .products)))
@@ -29,3 +33,7 @@ encodeForm f = variablesKind ∷ f .variables ∷ (encodeProducts (f .products) 
 -- The bytes are those of a valid form.
 abbrev pub EncodedForm : List ℕ → Type 0
 EncodedForm bytes = (f : Form) × ValidForm f × (bytes ≡ encodeForm f)
+
+-- The bytes are those of a canonical product of n variables.
+abbrev pub EncodedProduct : ℕ → List ℕ → Type 0
+EncodedProduct n bytes = (p : List Factor) × AllFit n p × Canonical p × (bytes ≡ encodeProduct p)

@@ -6,7 +6,7 @@ use mathlib.Core.List.{List, [], _∷_}
 use Prim.Native.Nat.{ℕ}
 use Rattle.table.specs.Refusal.{Test, firstFault, firstPlace, wrongKindFault, bytesMissingFault, wrongVariablesFault, wrongFactorFault, notCanonicalFault, wrongCountFault, bytesAfterFault, tooManyProductsFault}
 use Rattle.records.specs.Walks.{isFault, layoutTests}
-use Rattle.form.specs.Walk.{walkedForm}
+use Rattle.form.specs.Walk.{walkedForm, walkedProduct}
 
 -- The bytes are a form. That they are so exactly if they encode a valid form is `form-exactly`.
 abbrev pub IsForm : List ℕ → Type 0
@@ -35,3 +35,23 @@ formFault bytes = firstFault (formTests bytes)
 
 unfoldable pub formPlace : List ℕ → ℕ
 formPlace bytes = firstPlace (formTests bytes)
+
+-- ---- a product alone (document 02, No. 5)
+
+-- The bytes are a product of n variables. That they are so exactly if they encode a canonical product is `product-exactly`.
+abbrev pub IsProduct : ℕ → List ℕ → Type 0
+IsProduct n bytes = isFault (walkedProduct n bytes) ≡ false
+
+-- What can be wrong with them: n is the form's, there is no end record, and a second product is a kind that stands wrong.
+abbrev pub productFaults : List ℕ
+productFaults = wrongKindFault ∷ bytesMissingFault ∷ wrongFactorFault ∷ notCanonicalFault ∷ []
+
+abbrev pub productTests : ℕ → List ℕ → List Test
+productTests n bytes = layoutTests productFaults (walkedProduct n bytes)
+
+-- The refusal of a product's bytes, or 0, and the place that goes with it.
+unfoldable pub productFault : ℕ → List ℕ → ℕ
+productFault n bytes = firstFault (productTests n bytes)
+
+unfoldable pub productPlace : ℕ → List ℕ → ℕ
+productPlace n bytes = firstPlace (productTests n bytes)

@@ -1,6 +1,7 @@
 -- The walk over the bytes of a form, from the left: it reports the first fault that it meets, with its byte place, or a form
--- (document 01, "The written form"; the faults and their places are those of document 02, No. 3). Read next: Faults.
-use mathlib.Core.Bool.{cond}
+-- (document 01, "The written form"; the faults and their places are those of document 02, No. 3). A product alone is read by the same walk
+-- (document 02, No. 5). Read next: Faults.
+use mathlib.Core.Bool.{Bool, true, cond, not, _&&_}
 use mathlib.Core.List.{List, [], _∷_, _++_}
 use Prim.Native.Nat.{ℕ, _+_}
 use lib.Dec.{eqb, ltb}
@@ -11,7 +12,7 @@ use Rattle.records.specs.Kinds.{productKind, factorKind, headOf}
 use Rattle.table.specs.Table.{badCount}
 use Rattle.product.specs.Product.{Factor, fits, agrees}
 use Rattle.records.specs.declared.Walk.{Walk}
-use Rattle.records.specs.declared.Walk.the-variants.{WrongKind, Missing, WrongVariables, WrongFactor, NotCanonical, TooMany}
+use Rattle.records.specs.declared.Walk.the-variants.{Laid, WrongKind, Missing, WrongVariables, WrongFactor, NotCanonical, TooMany}
 use Rattle.records.specs.declared.Step.{Step}
 use Rattle.records.specs.declared.Step.the-variants.{Whole, Stop}
 use Rattle.records.specs.Walks.{headStep, bodyStep, endStep, goOn, walkBy, bytesMissing}
@@ -82,6 +83,31 @@ passed b kind rest =
 -- The walk over the bytes from a place on, for n variables, once the given number of bytes of a body is passed.
 abbrev pub walkFormFrom : ℕ → ℕ → Behind → ℕ → List ℕ → Walk
 walkFormFrom n = walkBy (formStep n) passed bytesMissing
+
+-- ---- a product alone: its 50 and its factors, which end with the bytes (document 02, No. 5)
+
+-- The kind byte that is awaited there after a number of products: the beginning of the product, then its factors.
+abbrev pub awaitedKind : ℕ → ℕ
+awaitedKind products = cond (eqb products 0) productKind factorKind
+
+-- A record is one of a form; in a product alone every other kind than the awaited one stands wrong.
+abbrev pub recordStep : Bool → ℕ → Behind → ℕ → ℕ → List ℕ → Step
+recordStep alone n b byte place rest =
+    cond (alone && not (eqb byte (awaitedKind (b .products)))) (Stop (WrongKind place)) (formStep n b byte place rest)
+
+-- Where no byte is left bytes are missing, but for a product alone that has begun.
+abbrev pub recordsEnding : Bool → Behind → ℕ → Walk
+recordsEnding alone b place = cond (alone && not (eqb (b .products) 0)) (Laid (b .products)) (Missing place)
+
+-- The walk over the records of a form after its first, or over those of a product alone: for a form it is `walkFormFrom`.
+abbrev pub walkRecordsFrom : Bool → ℕ → ℕ → Behind → ℕ → List ℕ → Walk
+walkRecordsFrom alone n = walkBy (recordStep alone n) passed (recordsEnding alone)
+
+-- The walk over the bytes of a product of n variables, whose places count from its 50.
+unfoldable pub walkedProduct : ℕ → List ℕ → Walk
+walkedProduct n bytes = walkRecordsFrom true n 0 (behind 0 []) 0 bytes
+
+-- ---- a whole form
 
 -- The walk over a whole input: the first record, products with their factors, the end.
 unfoldable pub walkedForm : List ℕ → Walk

@@ -1,18 +1,20 @@
 // The written form (document 01, "The written form"): its bytes are walked from the left, and refused where they are no form.
 // Read next: specs/Form.antt.
 ghost use mathlib.Core.Path.{_≡_};
-ghost use mathlib.Core.List.{[]};
+ghost use mathlib.Core.Bool.{_&&_, not};
+ghost use mathlib.Core.List.{List, []};
 ghost use Prim.Native.Nat.{ℕ, _+_, _≤_, _<_};
+ghost use lib.Dec.{eqb};
 ghost use lib.ListN.{length, getD, drop};
 ghost use Rattle.gf2.specs.Limits.{maxVariables};
 ghost use Rattle.table.specs.Refusal.{faultOf};
 ghost use Rattle.records.specs.Kinds.{bodyLength};
 ghost use Rattle.records.specs.declared.Kind.the-variants.{Variables, Factor as FactorKind};
-ghost use Rattle.product.specs.Product.{agrees, factor, fits};
+ghost use Rattle.product.specs.Product.{Factor, agrees, factor, fits};
 ghost use Rattle.form.specs.Decoding.{factorOf};
-ghost use Rattle.form.specs.Refusal.{formTests};
+ghost use Rattle.form.specs.Refusal.{formTests, productTests};
 ghost use Rattle.records.specs.Walks.{bodyStep};
-ghost use Rattle.form.specs.Walk.{behind, variablesStep, firstFormStep, factorStep, productStep, formStep, walkFormFrom, walkedForm};
+ghost use Rattle.form.specs.Walk.{behind, variablesStep, firstFormStep, factorStep, productStep, formStep, awaitedKind, recordStep, recordsEnding, walkRecordsFrom, walkedForm};
 ghost use Rattle.form.specs.Counting.{Counted, behindBy, countsAfter, factorLength, factorsBefore};
 use records::FACTOR_KIND;
 use records::Kind;
@@ -200,10 +202,58 @@ fn counts_after(bytes: &[u8], n: usize, counts: Counts, place: usize) -> Counts
     }
 }
 
-// The walk over the records after the first, from the place on.
-fn walk_records(bytes: &[u8], n: usize, start: usize) -> Walk
+// The kind byte stands wrong in a product alone after a number of products: its 50 is awaited, then its factors.
+fn misplaced(byte: u8, alone: bool, products: usize) -> bool
+    ensures { λ r. ⌜ r ≡ alone && not (eqb byte (awaitedKind products)) ⌝ }
+{
+    if !alone {
+        return false;
+    }
+    if products == 0 {
+        return byte != PRODUCT_KIND;
+    }
+    byte != FACTOR_KIND
+}
+
+// A record after the first of a form, or a record of a product alone, at the place.
+fn awaited_step(bytes: &[u8], alone: bool, n: usize, counts: Counts, place: usize) -> Step
+    requires { ⌜ Counted n (now bytes) counts place ⌝ }
+    requires { ⌜ place < length (now bytes) ⌝ }
+    ensures { λ r.
+        ⌜
+        r
+        ≡ recordStep
+        alone
+        n
+        (behindBy (now (bytes .entry)) counts place)
+        (getD (now (bytes .entry)) place 0)
+        place
+        (drop (place + 1) (now (bytes .entry)))
+        ⌝ }
+{
+    if misplaced(bytes[place], alone, counts.products) {
+        return Step::Stop(Walk::WrongKind(place));
+    }
+    record_step(bytes, n, counts, place)
+}
+
+// What is found where no byte is left, after a number of products.
+fn records_ending(alone: bool, products: usize, place: usize) -> Walk
+    ensures { λ r. ⌜ ((factors : List Factor) → r ≡ recordsEnding alone (behind products factors) place) ⌝ }
+{
+    if !alone {
+        return Walk::Missing(place);
+    }
+    if products == 0 {
+        return Walk::Missing(place);
+    }
+    Walk::Laid(products)
+}
+
+// The walk from the place on over the records after the first of a form, or over those of a product alone.
+fn walk_records(bytes: &[u8], alone: bool, n: usize, start: usize) -> Walk
     requires { ⌜ (n ≤ maxVariables) × (start ≤ length (now bytes)) ⌝ }
-    ensures { λ r. ⌜ r ≡ walkFormFrom n 0 (behind 0 []) start (drop start (now (bytes .entry))) ⌝ }
+    ensures { λ r. ⌜ r ≡ walkRecordsFrom alone n 0 (behind 0 []) start (drop start (now (bytes .entry))) ⌝ }
 {
     let mut counts = Counts {
         products: 0,
@@ -211,7 +261,7 @@ fn walk_records(bytes: &[u8], n: usize, start: usize) -> Walk
     };
     let mut place = start;
     while place < bytes.len() {
-        match record_step(bytes, n, counts, place) {
+        match awaited_step(bytes, alone, n, counts, place) {
             Step::Stop(end) => {
                 return end;
             }
@@ -221,7 +271,7 @@ fn walk_records(bytes: &[u8], n: usize, start: usize) -> Walk
             }
         }
     }
-    Walk::Missing(place)
+    records_ending(alone, counts.products, place)
 }
 
 // The walk over the bytes of a form.
@@ -233,7 +283,7 @@ pub fn walk_form(bytes: &[u8]) -> Walk
     }
     match first_step(bytes) {
         Step::Stop(end) => end,
-        Step::Whole(length) => walk_records(bytes, bytes[1] as usize, 1 + length),
+        Step::Whole(length) => walk_records(bytes, false, bytes[1] as usize, 1 + length),
     }
 }
 
@@ -242,4 +292,12 @@ pub fn form_fault(bytes: &[u8]) -> Fault
     ensures { λ r. ⌜ r ≡ faultOf (formTests (now (bytes .entry))) ⌝ }
 {
     records::layout_fault(walk_form(bytes))
+}
+
+// What is wrong with the bytes of a product of n variables.
+pub fn product_fault(bytes: &[u8], n: usize) -> Fault
+    requires { ⌜ n ≤ maxVariables ⌝ }
+    ensures { λ r. ⌜ r ≡ faultOf (productTests n (now (bytes .entry))) ⌝ }
+{
+    records::layout_fault(walk_records(bytes, true, n, 0))
 }

@@ -48,7 +48,7 @@ pub record Rest (bytes : List ℕ) : Type 0 where
   pub earlier : List Factor
   pub laying : Laying variables bytes products earlier all
 
-rest : {n : ℕ} {bytes : List ℕ} {products : ℕ} {earlier : List Factor} {all : ℕ} → Laying n bytes products earlier all → Rest bytes
+pub rest : {n : ℕ} {bytes : List ℕ} {products : ℕ} {earlier : List Factor} {all : ℕ} → Laying n bytes products earlier all → Rest bytes
 rest {n} {bytes} {products} {earlier} {all} l = record { variables = n; all = all; products = products; earlier = earlier; laying = l }
 
 pub rest-first : {bytes : List ℕ} {all : ℕ} → LaidAs bytes all → Rest (drop 2 bytes)

@@ -36,7 +36,7 @@ pub struct FormRewrite {
 }
 
 // A product that held the point so far holds it with the factor at the place too.
-fn still_holds(bytes: &[u8], place: usize, holds: bool, point: u16) -> bool
+pub fn still_holds(bytes: &[u8], place: usize, holds: bool, point: u16) -> bool
     requires { ⌜ place + factorLength ≤ length (now bytes) ⌝ }
     ensures { λ r. ⌜ r ≡ holds && factorAt (factorOf (drop (place + 1) (now (bytes .entry)))) point ⌝ }
 {

@@ -1,4 +1,5 @@
-// The public calls, exported to C and Rust, and nothing else: each hands its arguments to the crate that does the work. A call takes numbers and lent
+// The public calls, exported to C and Rust, and nothing else: each hands its arguments to the crate that does the work. The three that keep an index are calls in
+// a row without a branch, since a slice of structs has to be walked by hand: crate `index` decides, and `index_list` goes over the list. A call takes numbers and lent
 // slices, asks nothing of its caller, and says in its contract what it returns and what every lent slice holds afterwards, on all inputs. A refused
 // call returns the number of document 01, "Refusal numbers", or of document 02, with all other numbers 0 and all lent memory as before. Read next: crate `claims`.
 ghost use mathlib.Core.Path.{_≡_};
@@ -9,6 +10,7 @@ ghost use Rattle.form_calls.specs.Reading.{pointsAnswer, pointsAfter, rewriteAn
 ghost use Rattle.cubes.specs.Listing.{listingAnswer, listingAfter};
 ghost use Rattle.listing.specs.Answers.{callOf, numbersOf};
 ghost use Rattle.writing.specs.Writing.{writeAnswer, writeAfter};
+ghost use Rattle.index.specs.Answers.{buildAnswer, buildAfter, appendAnswer, appendListAfter, appendAfter, removeAnswer, removeListAfter, removeAfter};
 ghost use Rattle.report.specs.Answer.{reportAnswer, reportAfter};
 ghost use Rattle.analysis.specs.Spaces.{linearSpaceAnswer, completeAnswer, completeAfter, analyseAnswer, analyseAfter};
 ghost use Rattle.analysis.specs.Affine.{affineAnswer, affineAfter};
@@ -19,6 +21,8 @@ use analysis::LinearSpace;
 use compare::Comparison;
 use form_calls::FormPoints;
 use form_calls::FormRewrite;
+use index::Indexed;
+use index::PointRecord;
 use listing::Listed;
 use report::ReportWritten;
 use stored::TableRead;
@@ -143,6 +147,54 @@ pub extern "C" fn glospruma_write_form(
     ensures { λ r. ⌜ now (room .exit) ≡ writeAfter n (now (on .entry)) (now (free .entry)) (now (room .entry)) ⌝ }
 {
     writing::write_form(n, on, free, &mut *room)
+}
+
+// The index of a form built at the front of the list: a record for each of its points. Refusals 20 to 27, then 7 for the list.
+#[no_mangle]
+pub extern "C" fn glospruma_index_build(form: &[u8], list: &mut [PointRecord]) -> Indexed
+    ensures { λ r. ⌜ r ≡ buildAnswer (now (form .entry)) (now (list .entry)) ⌝ }
+    ensures { λ r. ⌜ now (list .exit) ≡ buildAfter (now (form .entry)) (now (list .entry)) ⌝ }
+{
+    let answer = index::build_answer(form, list.len());
+    index_list::update(list, form, answer, index::BUILD);
+    answer
+}
+
+// A product appended to a form: the new form at the front of the room, and the product counted at its points in the list, which begins with the index of
+// the form. Refusals 20 to 27 of the form, then 20, 21, 23, 24 of the product, then 7 for the list, 17, 27, then 7 for the room.
+#[no_mangle]
+pub extern "C" fn glospruma_index_append(
+    form: &[u8],
+    product: &[u8],
+    list: &mut [PointRecord],
+    room: &mut [u8],
+) -> Indexed
+    ensures { λ r. ⌜ r ≡ appendAnswer (now (form .entry)) (now (product .entry)) (now (list .entry)) (now (room .entry)) ⌝ }
+    ensures { λ r. ⌜ now (list .exit) ≡ appendListAfter (now (form .entry)) (now (product .entry)) (now (list .entry)) (now (room .entry)) ⌝ }
+    ensures { λ r. ⌜ now (room .exit) ≡ appendAfter (now (form .entry)) (now (product .entry)) (now (list .entry)) (now (room .entry)) ⌝ }
+{
+    let same = index_list::matches(list, form);
+    let answer = index::append_form(form, product, list.len(), same, room);
+    index_list::update(list, product, answer, index::APPEND);
+    answer
+}
+
+// The last product taken from a form: the new form at the front of the room, and the product no longer counted in the list, which begins with the index of
+// the form. Refusals 20 to 27, then 7 for the list, 17, 12, then 7 for the room.
+#[no_mangle]
+pub extern "C" fn glospruma_index_remove(
+    form: &[u8],
+    list: &mut [PointRecord],
+    room: &mut [u8],
+) -> Indexed
+    ensures { λ r. ⌜ r ≡ removeAnswer (now (form .entry)) (now (list .entry)) (now (room .entry)) ⌝ }
+    ensures { λ r. ⌜ now (list .exit) ≡ removeListAfter (now (form .entry)) (now (list .entry)) (now (room .entry)) ⌝ }
+    ensures { λ r. ⌜ now (room .exit) ≡ removeAfter (now (form .entry)) (now (list .entry)) (now (room .entry)) ⌝ }
+{
+    let same = index_list::matches(list, form);
+    let answer = index::remove_form(form, list.len(), same, room);
+    index_list::update(list, form, answer, index::REMOVE);
+    answer
 }
 
 // The printed report of a stored table, at the front of the room; a refused table has a report too. Refusal 7.

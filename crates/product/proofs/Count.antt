@@ -17,10 +17,10 @@ abbrev pub count : (ℕ → Bool) → ℕ → ℕ
 count f k = length (select f k)
 
 -- 1 where the test is passed, 0 where it is not.
-abbrev one : Bool → ℕ
+abbrev pub one : Bool → ℕ
 one t = cond t 1 0
 
-count-suc : (f : ℕ → Bool) (k : ℕ) → count f (suc k) ≡ count f k + one (f k)
+pub count-suc : (f : ℕ → Bool) (k : ℕ) → count f (suc k) ≡ count f k + one (f k)
 unfolding select
 count-suc f k = go (f k)
   where

@@ -5,6 +5,7 @@ use mathlib.Core.Bool.{Bool, true, false, cond, _||_}
 use mathlib.Core.Logic.{_≢_, inl, inr, _↔_}
 use mathlib.Core.List.{List, [], _∷_, _++_, map, append-nil}
 use Prim.Native.Nat.{ℕ}
+use native.Mathlib.Decide.{ℕ-discrete}
 use lib.Dec.{eqb}
 use borrow.Author.Tests.{eqb-true}
 use Rattle.gf2.specs.Finite.{Mem, holds}
@@ -85,6 +86,22 @@ fault-before (t ∷ ts) us nz = go (t .applies) nz (fault-before ts us)
         → cond b (t .number) (firstFault (ts ++ us)) ≡ cond b (t .number) (firstFault ts)
     go true nz next = refl
     go false nz next = next nz
+
+-- So tests one after the other give nothing exactly when none of the parts does.
+pub none-both : (ts us : List Test) → Numbered ts → (firstFault (ts ++ us) ≡ 0) ↔ ((firstFault ts ≡ 0) × (firstFault us ≡ 0))
+none-both ts us h = (λ z. go z (ℕ-discrete (firstFault ts) 0), λ z. fault-append ts us h (z .0) ∙ z .1)
+  where
+    go : firstFault (ts ++ us) ≡ 0 → Dec (firstFault ts ≡ 0) → (firstFault ts ≡ 0) × (firstFault us ≡ 0)
+    go z (yes e) = (e, sym (fault-append ts us h e) ∙ z)
+    go z (no n) = absurd (n (sym (fault-before ts us n) ∙ z))
+
+pub none-next : (t : Test) (ts : List Test) → t .number ≢ 0 → (firstFault (t ∷ ts) ≡ 0) ↔ ((t .applies ≡ false) × (firstFault ts ≡ 0))
+unfolding firstFault
+none-next t ts n = (go (t .applies), λ z. rw (z .0) (z .1))
+  where
+    go : (b : Bool) → cond b (t .number) (firstFault ts) ≡ 0 → (b ≡ false) × (firstFault ts ≡ 0)
+    go true z = absurd (n z)
+    go false z = (refl, z)
 
 -- ---- the place that goes with the number
 

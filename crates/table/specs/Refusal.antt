@@ -50,6 +50,14 @@ countsFault = 10
 abbrev pub firstPointFault : ℕ
 firstPointFault = 11
 
+-- The last product is to be taken from a form that has none (document 02, No. 5).
+abbrev pub emptyFormFault : ℕ
+emptyFormFault = 12
+
+-- A list of records isn't the index of the form (document 02, No. 5).
+abbrev pub recordsFault : ℕ
+recordsFault = 17
+
 -- ---- the numbers of what is wrong with bytes (document 02, No. 3), which are given with a byte place; 8 was the one number for all of them and stays unused
 
 -- A kind is unknown, or stands where it can't.

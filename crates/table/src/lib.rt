@@ -30,6 +30,10 @@ pub const COUNTS_FAULT: u8 = 10;
 
 pub const FIRST_POINT_FAULT: u8 = 11;
 
+pub const EMPTY_FORM_FAULT: u8 = 12;
+
+pub const RECORDS_FAULT: u8 = 17;
+
 pub const WRONG_KIND_FAULT: u8 = 20;
 
 pub const BYTES_MISSING_FAULT: u8 = 21;

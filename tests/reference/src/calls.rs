@@ -2,12 +2,13 @@
 //! first. A refused call returns its number, with its place if bytes are at fault,
 //! and all others 0; it leaves lent memory as it was, and so is unused room after an
 //! accepted answer. Follows document 01, section "Refusal numbers", and document 02,
-//! No. 1, No. 3 and No. 4.
+//! No. 1, No. 3, No. 4 and No. 5.
 
 use crate::compare;
 use crate::completion;
 use crate::cover;
-use crate::form;
+use crate::form::{self, Form};
+use crate::index::{self, Record};
 use crate::numbers::*;
 use crate::primes;
 use crate::refusal::{self, Refused};
@@ -262,6 +263,70 @@ pub fn form_rewrite(bytes: &[u8], room: &mut [u8]) -> RewriteNumbers {
         place,
         ..RewriteNumbers::default()
     })
+}
+
+/// Numbers of an accepted index call, by the form that the list then belongs to.
+fn indexed(form: &Form) -> IndexNumbers {
+    IndexNumbers {
+        refusal: refusal::NONE,
+        place: 0,
+        variables: form.variables,
+        length: form::encode(form).len(),
+        products: form.products.len(),
+    }
+}
+
+/// Numbers of a refused index call.
+fn not_indexed(Refused { refusal, place }: Refused) -> IndexNumbers {
+    IndexNumbers {
+        refusal,
+        place,
+        ..IndexNumbers::default()
+    }
+}
+
+/// Builds the index of a form in a list. Refusals 20 to 27 with a place, then 7.
+pub fn index_build(form: &[u8], list: &mut [Record]) -> IndexNumbers {
+    match index::build(form, list) {
+        Ok(form) => {
+            put(&index::records(&form), list);
+            indexed(&form)
+        }
+        Err(refused) => not_indexed(refused),
+    }
+}
+
+/// Writes a changed form to the room, unless refusal 7 applies, and its index to the
+/// list.
+fn change(form: &Form, list: &mut [Record], room: &mut [u8]) -> Result<IndexNumbers, Refused> {
+    let bytes = form::encode(form);
+    check_room(&bytes, room)?;
+    put(&bytes, room);
+    put(&index::records(form), list);
+    Ok(indexed(form))
+}
+
+/// Appends a product to a form and changes its index in the list; the new form goes
+/// to the room. Refusals 20 to 27 with their places in the form, 20, 21, 23 and 24
+/// with theirs in the product, 7 for the list, 17, 27 with place 0, 7 for the room.
+pub fn index_append(
+    form: &[u8],
+    product: &[u8],
+    list: &mut [Record],
+    room: &mut [u8],
+) -> IndexNumbers {
+    let changed = index::append(form, product, list);
+    let answer = changed.and_then(|form| change(&form, list, room));
+    answer.unwrap_or_else(not_indexed)
+}
+
+/// Takes the last product away from a form and changes its index in the list; the new
+/// form goes to the room. Refusals 20 to 27 with a place, 7 for the list, 17, 12, 7
+/// for the room.
+pub fn index_remove(form: &[u8], list: &mut [Record], room: &mut [u8]) -> IndexNumbers {
+    let changed = index::remove(form, list);
+    let answer = changed.and_then(|form| change(&form, list, room));
+    answer.unwrap_or_else(not_indexed)
 }
 
 fn try_report(bytes: &[u8], room: &mut [u8]) -> Result<ReportNumbers, u8> {

@@ -2,8 +2,8 @@
 //! more than the kinds of record. It splits bytes into records by kind and length
 //! alone, lists every fault by the rule of each number, with a sentence that says
 //! why, and only then takes the first place, and of two faults at one byte the
-//! smaller number. Follows document 02, No. 3, and document 01, section "The written
-//! form".
+//! smaller number. Follows document 02, No. 3 and for a product alone No. 5, and
+//! document 01, section "The written form".
 
 use crate::refusal::{self, Refused};
 use crate::walk::{KIND_END, KIND_FACTOR, KIND_FREE, KIND_ON, KIND_PRODUCT, KIND_VARIABLES};
@@ -32,6 +32,8 @@ type Broken = Vec<(usize, &'static str)>;
 enum Reading {
     Table,
     Form,
+    /// A product alone, of a form of so many variables.
+    Product(u8),
 }
 
 /// A record: where its kind byte stands, its kind, and its body if all of it is
@@ -63,11 +65,14 @@ fn body_length(kind: u8) -> Option<usize> {
 }
 
 /// Whether a kind is awaited behind some records: not after 45, and in a table not
-/// at place 12,293.
+/// at place 12,293. A product has no 45, so that one is awaited until the bytes end.
 fn awaits_kind(reading: Reading, records: &[Record], end: usize) -> bool {
     let is_closed = records.last().is_some_and(|last| last.kind == KIND_END);
-    let is_full = reading == Reading::Table && end >= MOST_BYTES;
-    !is_closed && !is_full
+    match reading {
+        Reading::Table => !is_closed && end < MOST_BYTES,
+        Reading::Form => !is_closed,
+        Reading::Product(_) => true,
+    }
 }
 
 /// Splits bytes as long as a kind is awaited, there and known.
@@ -106,8 +111,11 @@ impl<'a> Split<'a> {
         records.filter_map(|(place, body)| Some((place + 1, body?)))
     }
 
-    /// The byte after a first 4E.
+    /// The byte after a first 4E, or the n that a product comes with.
     fn variables(&self) -> Option<u8> {
+        if let Reading::Product(variables) = self.reading {
+            return Some(variables);
+        }
         let mut bodies = self.bodies(KIND_VARIABLES);
         bodies
             .find(|&(place, _)| place == 1)
@@ -125,6 +133,8 @@ fn wrong_kinds(split: &Split) -> Broken {
     let product = split.of_kind(KIND_PRODUCT).next();
     let has_begun = |place| product.is_some_and(|(begin, _)| begin < place);
     let may_stand = |record: &Record| match (record.place, split.reading) {
+        (0, Reading::Product(_)) => record.kind == KIND_PRODUCT,
+        (_, Reading::Product(_)) => record.kind == KIND_FACTOR,
         (0, _) => record.kind == KIND_VARIABLES,
         (_, Reading::Table) => matches!(record.kind, KIND_ON | KIND_FREE | KIND_END),
         (place, Reading::Form) => match record.kind {
@@ -143,12 +153,17 @@ fn wrong_kinds(split: &Split) -> Broken {
     broken
 }
 
-/// 21: the bytes end inside a body, or before a record 45.
+/// 21: the bytes end inside a body, or before a record 45, or of a product there are
+/// none.
 fn missing_bytes(split: &Split) -> Broken {
     let length = split.bytes.len();
     let last = split.records.last();
     if last.is_some_and(|record| record.body.is_none()) {
         return vec![(length, "the bytes end inside a body")];
+    }
+    if let Reading::Product(_) = split.reading {
+        let empty = (length == 0).then_some((0, "there are no bytes"));
+        return empty.into_iter().collect();
     }
     if split.end == length && split.of_kind(KIND_END).next().is_none() {
         return vec![(length, "the bytes end before a record 45")];
@@ -214,7 +229,7 @@ fn disagreeing_factors(split: &Split) -> Broken {
 fn wrong_count(split: &Split) -> Broken {
     let is_counted = |record: &&Record| match split.reading {
         Reading::Table => matches!(record.kind, KIND_ON | KIND_FREE),
-        Reading::Form => record.kind == KIND_PRODUCT,
+        _ => record.kind == KIND_PRODUCT,
     };
     let count = split.records.iter().filter(is_counted).count();
     let ends = split.bodies(KIND_END);
@@ -267,6 +282,14 @@ const OF_FORMS: [(u8, Rule); 8] = [
     (refusal::TOO_MANY_PRODUCTS, more_products),
 ];
 
+/// The rules for products alone.
+const OF_PRODUCTS: [(u8, Rule); 4] = [
+    (refusal::WRONG_KIND, wrong_kinds),
+    (refusal::BYTES_MISSING, missing_bytes),
+    (refusal::WRONG_FACTOR, wrong_factors),
+    (refusal::NOT_CANONICAL, disagreeing_factors),
+];
+
 /// Every fault by some rules, from the left, and at one byte the smaller number
 /// first.
 fn all_faults(split: &Split, rules: &[(u8, Rule)]) -> Vec<Fault> {
@@ -289,4 +312,10 @@ pub fn of_table(bytes: &[u8]) -> Vec<Fault> {
 /// Every fault of a form; the first one is to be reported.
 pub fn of_form(bytes: &[u8]) -> Vec<Fault> {
     all_faults(&split(Reading::Form, bytes), &OF_FORMS)
+}
+
+/// Every fault of a product alone, of a form of so many variables; the first one is
+/// to be reported.
+pub fn of_product(variables: u8, bytes: &[u8]) -> Vec<Fault> {
+    all_faults(&split(Reading::Product(variables), bytes), &OF_PRODUCTS)
 }

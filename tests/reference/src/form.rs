@@ -79,13 +79,15 @@ fn factor_of(variables: usize, body: &[u8]) -> Option<Factor> {
     in_range.then_some(Factor { constant, mask })
 }
 
-/// Reads the factor whose kind byte stands at `place` into the last product.
-fn walk_factor(bytes: &[u8], place: usize, form: &mut Form) -> Result<(), Refused> {
-    let Some(product) = form.products.last_mut() else {
-        return Err(Refused::at(refusal::WRONG_KIND, place));
-    };
+/// Reads the factor whose kind byte stands at `place` into a product.
+pub fn walk_factor(
+    bytes: &[u8],
+    place: usize,
+    variables: usize,
+    product: &mut Product,
+) -> Result<(), Refused> {
     let body = walk::body_at(bytes, place + 1, 3)?;
-    let Some(factor) = factor_of(form.variables, body) else {
+    let Some(factor) = factor_of(variables, body) else {
         return Err(Refused::at(refusal::WRONG_FACTOR, place + 1));
     };
     product.push(factor);
@@ -118,7 +120,10 @@ pub fn read_form(bytes: &[u8]) -> Result<Form, Refused> {
                 place += 1;
             }
             walk::KIND_FACTOR => {
-                walk_factor(bytes, place, &mut form)?;
+                let Some(product) = form.products.last_mut() else {
+                    return Err(Refused::at(refusal::WRONG_KIND, place));
+                };
+                walk_factor(bytes, place, variables, product)?;
                 place += 4;
             }
             walk::KIND_END => {

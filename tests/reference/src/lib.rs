@@ -9,6 +9,7 @@ pub mod cover;
 pub mod faults;
 pub mod form;
 pub mod generate;
+pub mod index;
 pub mod numbers;
 pub mod pla;
 pub mod primes;

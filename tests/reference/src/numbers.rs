@@ -107,6 +107,17 @@ pub struct RewriteNumbers {
     pub length: usize,
 }
 
+/// Numbers of the calls that build and change an index: those of the form that the
+/// list then belongs to.
+#[derive(Clone, Copy, Debug, Default, PartialEq, Eq)]
+pub struct IndexNumbers {
+    pub refusal: u8,
+    pub place: usize,
+    pub variables: usize,
+    pub length: usize,
+    pub products: usize,
+}
+
 /// Numbers of the call that writes the printed report.
 #[derive(Clone, Copy, Debug, Default, PartialEq, Eq)]
 pub struct ReportNumbers {

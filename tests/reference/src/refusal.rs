@@ -1,5 +1,5 @@
 //! The refusal numbers, each under a name, and a number with its place.
-//! Follows document 01, section "Refusal numbers", and document 02, No. 1 and No. 3:
+//! Follows document 01, section "Refusal numbers", and document 02, No. 1, No. 3 and No. 5:
 //! 20 to 27 stand for what 8 was, and no call gives 8.
 
 use std::fmt;
@@ -27,6 +27,10 @@ pub const PLACE_TOO_LARGE: u8 = 9;
 pub const COUNTS_DIFFER: u8 = 10;
 /// The first point of a comparison is above 2^n.
 pub const FIRST_POINT_TOO_LARGE: u8 = 11;
+/// A removal from a form with no product.
+pub const EMPTY_FORM: u8 = 12;
+/// The first 2^n records of a list aren't those of the form.
+pub const OTHER_RECORDS: u8 = 17;
 /// A kind is unknown, or may not stand where it does.
 pub const WRONG_KIND: u8 = 20;
 /// Bytes are missing.

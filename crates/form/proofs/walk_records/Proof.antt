@@ -6,20 +6,20 @@ use native.Mathlib.Omega.{arith}
 use borrow.Author.Needs.{needs}
 use lib.ListN.{length, drop, getD}
 use Rattle.records.specs.declared.Step.the-variants.{Whole}
-use Rattle.records.specs.Walks.{bytesMissing}
 use Rattle.records.proofs.Walking.{walk-over, walk-ends, walk-goes}
-use Rattle.form.specs.Walk.{behind, formStep, passed, walkFormFrom}
+use Rattle.form.specs.Walk.{behind, recordStep, passed, recordsEnding, walkRecordsFrom}
 use Rattle.form.specs.Counting.{Counted, behindBy, factorsBefore}
 use Rattle.form.proofs.Walking.{Carried, carried, none-fit, record-whole}
+use Rattle.form.proofs.Alone.{alone-whole}
 use Rattle.form.proofs.walk_records.Statement.{statement}
 use Rattle.form.proofs.walk_records.Tie as tie
 
 abbrev Inv-loop : tie.InvT-loop
-Inv-loop bytes n start counts₀ place₀ counts place =
-    Counted n bytes counts place × (walkFormFrom n 0 (behindBy bytes counts place) place (drop place bytes) ≡ walkFormFrom n 0 (behind 0 []) start (drop start bytes))
+Inv-loop bytes alone n start counts₀ place₀ counts place =
+    Counted n bytes counts place × (walkRecordsFrom alone n 0 (behindBy bytes counts place) place (drop place bytes) ≡ walkRecordsFrom alone n 0 (behind 0 []) start (drop start bytes))
 
 abbrev μ-loop : tie.MeasureT-loop
-μ-loop bytes n start counts₀ place₀ counts place = length bytes - place
+μ-loop bytes alone n start counts₀ place₀ counts place = length bytes - place
 
 loop-holds : tie.Need-loop-holds Inv-loop μ-loop
 unfolding factorsBefore
@@ -27,8 +27,8 @@ loop-holds c =
     let s = c .before in
     (record { few = s .pre .0; within = s .pre .1; begun = omega arith; room = omega arith; fitting = none-fit (s .args .n) (s .args .bytes .now) (s .args .start) }, refl)
 
-record-step-requires : tie.Need-record-step-requires Inv-loop μ-loop
-record-step-requires c κs = search needs
+awaited-step-requires : tie.Need-awaited-step-requires Inv-loop μ-loop
+awaited-step-requires c κs = search needs
 
 enum-known-end : tie.Need-enum-known-end Inv-loop μ-loop
 enum-known-end c = search needs
@@ -39,7 +39,7 @@ returns c =
     let r = e .before .before in
     let k = r .before .before in
     let a = k .before .before .args in
-    sym (walk-ends (formStep (a .n)) passed bytesMissing (a .bytes .now) (behindBy (a .bytes .now) (k .loop .counts) (k .loop .place)) (k .loop .place) (omega arith) (e .end .given .0 .0) (sym (r .record-step .ensures) ∙ e .end .given .1))
+    sym (walk-ends (recordStep (a .alone) (a .n)) passed (recordsEnding (a .alone)) (a .bytes .now) (behindBy (a .bytes .now) (k .loop .counts) (k .loop .place)) (k .loop .place) (omega arith) (e .end .given .0 .0) (sym (r .awaited-step .ensures) ∙ e .end .given .1))
     ∙ k .loop .inv .1
 
 enum-known-length : tie.Need-enum-known-length Inv-loop μ-loop
@@ -51,14 +51,15 @@ counts-after-requires c κs = search needs
 -- A whole record at the loop's place: the step that says so, and the counts after it.
 module _ (c : tie.After-counts-after Inv-loop μ-loop) where
   step :
-      formStep
+      recordStep
+      (c .before .before .before .before .before .before .before .before .args .alone)
       (c .before .before .before .before .before .before .before .before .args .n)
       (behindBy (c .before .before .before .before .before .before .before .before .args .bytes .now) (c .before .before .before .before .before .before .loop .counts) (c .before .before .before .before .before .before .loop .place))
       (getD (c .before .before .before .before .before .before .before .before .args .bytes .now) (c .before .before .before .before .before .before .loop .place) 0)
       (c .before .before .before .before .before .before .loop .place)
       (drop (c .before .before .before .before .before .before .loop .place + 1) (c .before .before .before .before .before .before .before .before .args .bytes .now))
       ≡ Whole (c .before .before .length .given .0 .0)
-  step = sym (c .before .before .before .before .record-step .ensures) ∙ c .before .before .length .given .1
+  step = sym (c .before .before .before .before .awaited-step .ensures) ∙ c .before .before .length .given .1
 
   carry :
       Carried
@@ -71,7 +72,8 @@ module _ (c : tie.After-counts-after Inv-loop μ-loop) where
   carry =
       let h = c .before .before .before .before .before .before in
       let a = h .before .before .args in
-      carried (a .n) (a .bytes .now) (h .loop .counts) (h .loop .place) (h .loop .inv .0) (omega arith) (getD (a .bytes .now) (h .loop .place) 0) (c .before .before .length .given .0 .0) step
+      carried (a .n) (a .bytes .now) (h .loop .counts) (h .loop .place) (h .loop .inv .0) (omega arith) (getD (a .bytes .now) (h .loop .place) 0) (c .before .before .length .given .0 .0)
+      (alone-whole (a .alone) (a .n) (behindBy (a .bytes .now) (h .loop .counts) (h .loop .place)) (getD (a .bytes .now) (h .loop .place) 0) (h .loop .place) (drop (h .loop .place + 1) (a .bytes .now)) (c .before .before .length .given .0 .0) step)
 
 add-place : tie.Need-add-place Inv-loop μ-loop
 add-place c = search needs
@@ -88,18 +90,22 @@ loop-again c =
     let a = h .before .before .args in
     let l = c .before .before .length .given .0 .0 in
     let b = behindBy (a .bytes .now) (h .loop .counts) (h .loop .place) in
-    let there = record-whole (a .n) b (getD (a .bytes .now) (h .loop .place) 0) (h .loop .place) (drop (h .loop .place + 1) (a .bytes .now)) l (step c) in
+    let there = record-whole (a .n) b (getD (a .bytes .now) (h .loop .place) 0) (h .loop .place) (drop (h .loop .place + 1) (a .bytes .now)) l (alone-whole (a .alone) (a .n) b (getD (a .bytes .now) (h .loop .place) 0) (h .loop .place) (drop (h .loop .place + 1) (a .bytes .now)) l (step c)) in
     rw (c .counts-after .ensures) (
       carry c .counted,
       rw (carry c .behindThen)
-          (sym (walk-goes (formStep (a .n)) passed bytesMissing (a .bytes .now) b (h .loop .place) (omega arith) l there (step c)) ∙ h .loop .inv .1),
+          (sym (walk-goes (recordStep (a .alone) (a .n)) passed (recordsEnding (a .alone)) (a .bytes .now) b (h .loop .place) (omega arith) l there (step c)) ∙ h .loop .inv .1),
     )
+
+records-ending-requires : tie.Need-records-ending-requires Inv-loop μ-loop
+records-ending-requires c κs = search needs
 
 returns-2 : tie.Need-returns-2 Inv-loop μ-loop
 returns-2 c =
-    let h = c .before .loop in
-    let a = c .before .before .before .args in
-    sym (walk-over (formStep (a .n)) passed bytesMissing (a .bytes .now) (behindBy (a .bytes .now) (h .counts) (h .place)) (h .place) (omega arith)) ∙ h .inv .1
+    let h = c .before .before .loop in
+    let a = c .before .before .before .before .args in
+    c .records-ending .ensures (factorsBefore (h .counts .factors) (a .bytes .now) (h .place))
+    ∙ sym (walk-over (recordStep (a .alone) (a .n)) passed (recordsEnding (a .alone)) (a .bytes .now) (behindBy (a .bytes .now) (h .counts) (h .place)) (h .place) (omega arith)) ∙ h .inv .1
 
 pub walk-records-spec : {M : Type 1} → statement M
 walk-records-spec =
@@ -108,7 +114,7 @@ walk-records-spec =
     Inv-loop
     μ-loop
     loop-holds
-    record-step-requires
+    awaited-step-requires
     enum-known-end
     returns
     enum-known-length
@@ -117,4 +123,5 @@ walk-records-spec =
     add-place-2
     loop-less
     loop-again
+    records-ending-requires
     returns-2)

@@ -3,7 +3,7 @@
 //! most over many inputs counts, with two different bytes of paint. The calls are
 //! those of document 01, section "What the library holds", and of document 02.
 
-use glospruma::{MAX_POINTS, MAX_VARIABLES, TABLE_LENGTH};
+use glospruma::{PointRecord, FORM_ROOM, MAX_POINTS, MAX_VARIABLES, TABLE_LENGTH};
 use reference::completion::MOST_CLOSURE_VARIABLES;
 use reference::generate::{self, Generator};
 use reference::table::{self, Table};
@@ -166,12 +166,43 @@ fn byte_rows(inputs: &[Vec<u8>]) {
     });
 }
 
+/// The calls that build and change an index. The list holds that of the input, if this
+/// is a form, before each change.
+fn index_rows(inputs: &[Vec<u8>]) {
+    let (mut list, mut room) = (vec![PointRecord::default(); MAX_POINTS], vec![0; FORM_ROOM]);
+    let built = |input: &[u8]| {
+        let mut list = vec![PointRecord::default(); MAX_POINTS];
+        library::index_build(input, &mut list);
+        list
+    };
+    row("index_build", inputs, |input| {
+        used(|| library::index_build(input, &mut list))
+    });
+    let product = [0x50, 0x58, 1, 1, 0];
+    row("index_append", inputs, |input| {
+        let built = built(input);
+        used(|| {
+            list.copy_from_slice(&built);
+            library::index_append(input, &product, &mut list, &mut room)
+        })
+    });
+    row("index_remove", inputs, |input| {
+        let built = built(input);
+        used(|| {
+            list.copy_from_slice(&built);
+            library::index_remove(input, &mut list, &mut room)
+        })
+    });
+}
+
 fn main() {
     let measure = || {
         let tables = tables();
         println!("| call | bytes of stack |\n|---|---|");
         table_rows(&tables);
-        byte_rows(&inputs(&tables));
+        let inputs = inputs(&tables);
+        byte_rows(&inputs);
+        index_rows(&inputs);
     };
     let thread = thread::Builder::new().stack_size(STACK).spawn(measure);
     let ended = thread.expect("a thread").join();

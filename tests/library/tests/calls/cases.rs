@@ -2,19 +2,23 @@
 //! reference, all numbers and rooms, the place among them. Follows document 02.
 
 use crate::analyse;
-use crate::case_files::{self, Case};
+use crate::case_files::{self, Case, Fields};
 use crate::compare;
 use crate::complete;
 use crate::form_points;
 use crate::form_rewrite;
+use crate::index;
 use crate::lent_calls;
 use crate::read_table;
 use crate::tally::Tally;
 use crate::write_form;
 use library::settings::some;
+use library::{Indexed, PointRecord};
 use reference::calls;
+use reference::index::Record;
+use reference::numbers::TableNumbers;
 use reference::numbers::{short_list, AnalysisNumbers, CompletionNumbers, FormNumbers};
-use reference::numbers::{ComparisonNumbers, FormPointsNumbers, RewriteNumbers, TableNumbers};
+use reference::numbers::{ComparisonNumbers, FormPointsNumbers, IndexNumbers, RewriteNumbers};
 
 /// The fields of a case must be these, in order of name.
 fn assert_fields(case: &Case, call: &str, takes: &[&str], gives: &[&str]) {
@@ -297,6 +301,122 @@ fn write_form() {
             check_write_form(case, |n, on, free, room| {
                 write_form::numbers(&lent_calls::write_form(n, on, free, room))
             })
+        },
+    );
+}
+
+/// A call that builds or changes an index: of a form, a list and a room.
+type IndexCall<'a, E, N> = &'a dyn Fn(&[u8], &mut [E], &mut [u8]) -> N;
+
+/// The records of a field.
+fn records_of(pairs: Vec<(u16, u16)>) -> Vec<Record> {
+    let record = |(count, first)| Record { count, first };
+    pairs.into_iter().map(record).collect()
+}
+
+/// Whether a case is one of the call that has no room and tells n, not the length.
+fn is_build(case: &Case) -> bool {
+    case.call == "index_build"
+}
+
+/// The numbers of a case. Of n and the length it tells one; the other is that of the
+/// form.
+fn index_numbers(case: &Case) -> IndexNumbers {
+    let Case { takes, gives, .. } = case;
+    let form = takes.bytes("data");
+    let refusal = gives.number("refusal");
+    let (variables, length) = match is_build(case) {
+        _ if refusal != 0 => (0, 0),
+        true => (gives.number("n"), form.len()),
+        false => (form[1].into(), gives.number("length")),
+    };
+    IndexNumbers {
+        refusal,
+        place: gives.number("place"),
+        variables,
+        length,
+        products: gives.number("products"),
+    }
+}
+
+/// Makes the call of a case by the reference and by the library, and compares numbers,
+/// list and room.
+fn check_index(
+    case: &Case,
+    by_reference: IndexCall<Record, IndexNumbers>,
+    by_library: IndexCall<PointRecord, Indexed>,
+) -> u8 {
+    let Case { takes, gives, .. } = case;
+    let expected = index_numbers(case);
+    let room_of = |fields: &Fields| match is_build(case) {
+        true => Vec::new(),
+        false => fields.bytes("room"),
+    };
+    let after = (records_of(gives.pairs("records")), room_of(gives));
+    let form = takes.bytes("data");
+    let (mut list, mut room) = (records_of(takes.pairs("records")), room_of(takes));
+    let mut records = index::from_reference(&list);
+    let mut other_room = room.clone();
+    let found = by_reference(&form, &mut list, &mut room);
+    assert_eq!(found, expected, "{}", case.title);
+    assert_eq!((list, room), after, "{}", case.title);
+    let found = by_library(&form, &mut records, &mut other_room);
+    assert_eq!(index::numbers(&found), expected, "{}", case.title);
+    let left = (index::to_reference(&records), other_room);
+    assert_eq!(left, after, "{}", case.title);
+    expected.refusal
+}
+
+#[test]
+fn index_build() {
+    let gives = ["n", "place", "products", "records", "refusal"];
+    each_case(
+        "index build, cases",
+        &[("05-index_build", 160), ("extra/05-index_build", 9)],
+        &[0, 7, 20, 21, 22, 23, 24, 25, 26, 27],
+        |case| {
+            assert_fields(case, "index_build", &["data", "records"], &gives);
+            check_index(
+                case,
+                &|form, list, _| calls::index_build(form, list),
+                &|form, list, _| lent_calls::index_build(form, list),
+            )
+        },
+    );
+}
+
+/// What a change of an index gives.
+const INDEX_CHANGE: [&str; 6] = ["length", "place", "products", "records", "refusal", "room"];
+
+#[test]
+fn index_append() {
+    let takes = ["data", "product", "records", "room"];
+    each_case(
+        "index append, cases",
+        &[("05-index_append", 160), ("extra/05-index_append", 25)],
+        &[0, 7, 17, 20, 21, 22, 23, 24, 26, 27],
+        |case| {
+            assert_fields(case, "index_append", &takes, &INDEX_CHANGE);
+            let product = case.takes.bytes("product");
+            check_index(
+                case,
+                &|form, list, room| calls::index_append(form, &product, list, room),
+                &|form, list, room| lent_calls::index_append(form, &product, list, room),
+            )
+        },
+    );
+}
+
+#[test]
+fn index_remove() {
+    let takes = ["data", "records", "room"];
+    each_case(
+        "index remove, cases",
+        &[("05-index_remove", 160), ("extra/05-index_remove", 12)],
+        &[0, 7, 12, 17, 20, 21, 22, 23, 24, 25, 26, 27],
+        |case| {
+            assert_fields(case, "index_remove", &takes, &INDEX_CHANGE);
+            check_index(case, &calls::index_remove, &lent_calls::index_remove)
         },
     );
 }

@@ -1,22 +1,25 @@
 //! Stored tables and forms damaged at random, several times over, and the answers
 //! of all calls that read them compared with the reference. Longer runs: see
 //! `random_run`. Follows document 01, sections "The written form" and "Refusal
-//! numbers", and document 02, No. 1 and No. 3.
+//! numbers", and document 02, No. 1, No. 3 and No. 5.
 
 use crate::compare;
 use crate::form_points;
 use crate::form_rewrite;
 use crate::forms;
+use crate::index::{self, Call};
 use crate::judges;
-use crate::lent::Lent;
+use crate::lent::{Entry, Lent};
 use crate::random_run::{self, Run};
 use crate::read_table;
 use crate::report;
 use crate::stored;
 use crate::tables;
-use glospruma::{COMPARISON_ROOM, DIFFERENCE_LENGTH, MAX_POINTS};
+use glospruma::{COMPARISON_ROOM, DIFFERENCE_LENGTH, MAX_POINTS, MAX_VARIABLES};
 use library::settings;
+use library::PointRecord;
 use reference::calls;
+use reference::form;
 use reference::generate::{self, Generator};
 use reference::numbers::{FormPointsNumbers, ReportNumbers, RewriteNumbers};
 use reference::refusal::SHORT_ROOM;
@@ -24,6 +27,10 @@ use reference::walk::{self, KIND_FACTOR, KIND_FREE, KIND_ON, KIND_PRODUCT};
 
 /// Cases of a run, if the environment names no other number.
 const CASES: usize = 500_000;
+
+/// Forms of fewer variables are indexed in every case: the reference tries every
+/// point.
+const QUICK: u8 = 7;
 
 /// Whole stored tables and forms to be damaged; most are short.
 fn whole_inputs(seed: u64) -> Vec<Vec<u8>> {
@@ -210,6 +217,49 @@ impl Readers {
         compare::compare(&mut self.run.tally, (left, right), first, length);
     }
 
+    /// A list for some bytes: if they are a form, mostly its records and sometimes a
+    /// few more, or with one of them changed.
+    fn list(&mut self, bytes: &[u8]) -> Vec<PointRecord> {
+        let generator = &mut self.run.generator;
+        let Ok(form) = form::read_form(bytes) else {
+            return PointRecord::pattern()[..generator.below(20)].to_vec();
+        };
+        let mut list = index::records_of(&form);
+        let place = generator.below(list.len());
+        match generator.below(8) {
+            0 => list.truncate(place),
+            1 => list[place].count ^= 1 << generator.below(16),
+            2 => list[place].first ^= 1 << generator.below(16),
+            3 => list.extend(&PointRecord::pattern()[..generator.below(4)]),
+            _ => {}
+        }
+        list
+    }
+
+    /// A product to be appended to some bytes, damaged in half of the cases.
+    fn product(&mut self, bytes: &[u8]) -> Vec<u8> {
+        let generator = &mut self.run.generator;
+        let n = usize::from(bytes.get(1).copied().unwrap_or(1)).clamp(1, MAX_VARIABLES);
+        let product = generate::random_product(generator, n);
+        let bytes = index::product_bytes(n, &product);
+        match generator.chance(50) {
+            true => damaged(generator, &[bytes]),
+            false => bytes,
+        }
+    }
+
+    /// One of the calls on an index, of the bytes as a form.
+    fn index(&mut self, bytes: &[u8]) {
+        let (list, product) = (self.list(bytes), self.product(bytes));
+        let (call, length) = match self.run.generator.below(4) {
+            0 => (Call::Build, 0),
+            1 => (Call::Remove, bytes.len().saturating_sub(5)),
+            _ => (Call::Append(&product), bytes.len() + product.len()),
+        };
+        let length = self.run.room_length(length);
+        index::compare(&mut self.run.tally, bytes, call, &list, length);
+    }
+
     /// Every call that reads bytes. The reference lists all primes for a report,
     /// so that a table of many variables is reported only at times.
     fn all(&mut self, bytes: &[u8]) {
@@ -227,6 +277,10 @@ impl Readers {
             self.report(lent.part());
         }
         lent.assert_as_lent();
+        let is_quick = bytes.get(1) < Some(&QUICK);
+        if self.run.generator.chance(if is_quick { 40 } else { 4 }) {
+            self.index(bytes);
+        }
     }
 }
 
@@ -241,6 +295,6 @@ fn at_random() {
         readers.all(&bytes);
     }
     let faults = [20, 21, 22, 23, 24, 25, 26, 27];
-    let expected = [&[0, 1, 2, 3, 7, 10, 11][..], &faults].concat();
+    let expected = [&[0, 1, 2, 3, 7, 10, 11, 12, 17][..], &faults].concat();
     readers.run.tally.finish(&expected);
 }

@@ -1,12 +1,12 @@
 //! The worked examples, as far as these calls answer them, with the answers that
-//! documents 01 and 02 print. Follows document 01, section "Table of proved
-//! examples", and document 02, No. 4.
+//! documents 01 and 02 print, and an index of P5's form. Follows document 01, section
+//! "Table of proved examples", and document 02, No. 4 and No. 5.
 
 use crate::forms;
 use crate::lent_calls;
 use crate::stored;
 use glospruma::MAX_POINTS;
-use library::{Basis, Listed, ShortList};
+use library::{Basis, Indexed, Listed, PointRecord, ShortList};
 
 const P5_ON: [u16; 10] = [4, 5, 6, 7, 9, 10, 12, 13, 14, 15];
 
@@ -148,6 +148,54 @@ fn p5_report() {
     let found = lent_calls::report(&bytes, &mut room);
     assert_eq!((found.refusal, found.length), (0, P5_REPORT.len()));
     assert_eq!(room, [P5_REPORT.as_bytes(), &[9]].concat());
+}
+
+/// Records of these counts and first products.
+fn records<const N: usize>(pairs: [(u16, u16); N]) -> Vec<PointRecord> {
+    let record = |(count, first)| PointRecord { count, first };
+    pairs.map(record).to_vec()
+}
+
+/// The records of P5's form, and one more: x2 holds 4 to 7 and 12 to 15, and the other
+/// product 4, 7, 9 and 10.
+fn p5_records() -> Vec<PointRecord> {
+    let none = (0, 65_535);
+    let low = records([none, none, none, none, (2, 0), (1, 0), (1, 0), (2, 0)]);
+    let middle = records([none, (1, 1), (1, 1), none]);
+    let high = records([(1, 0), (1, 0), (1, 0), (1, 0), (7, 8)]);
+    [low, middle, high].concat()
+}
+
+/// A product that holds 11 alone is appended and taken away.
+#[test]
+fn p5_index() {
+    let mut expected = p5_records();
+    let indexed = |length, products| Indexed {
+        variables: 4,
+        length,
+        products,
+        ..Default::default()
+    };
+    let mut list = records([(7, 8); 17]);
+    let built = lent_calls::index_build(&P5_FORM, &mut list);
+    assert_eq!((built, &list), (indexed(19, 2), &expected));
+    let factors = [
+        [0x58, 1, 8, 0],
+        [0x58, 0, 4, 0],
+        [0x58, 1, 2, 0],
+        [0x58, 1, 1, 0],
+    ];
+    let product = [&[0x50], factors.as_flattened()].concat();
+    let mut room = [9; 37];
+    let appended = lent_calls::index_append(&P5_FORM, &product, &mut list, &mut room);
+    let end = [0x45, 3, 0, 9];
+    assert_eq!(room[..], [&P5_FORM[..16], &product, &end].concat());
+    expected[11] = PointRecord { count: 1, first: 2 };
+    assert_eq!((appended, &list), (indexed(36, 3), &expected));
+    let mut back = [9; 20];
+    let removed = lent_calls::index_remove(&room[..36], &mut list, &mut back);
+    assert_eq!(back[..], [&P5_FORM[..], &[9]].concat());
+    assert_eq!((removed, list), (indexed(19, 2), p5_records()));
 }
 
 #[test]

@@ -3,7 +3,7 @@
 //! tables and bytes, good and faulty, and rooms of every kind. The other tests
 //! have one of the two for each slice. Numbers and rooms must be the same; the
 //! other tests compare them with the reference. Follows document 01, section
-//! "Refusal numbers", and document 02, No. 1, No. 3 and No. 4.
+//! "Refusal numbers", and document 02, No. 1, No. 3, No. 4 and No. 5.
 
 use crate::forms;
 use crate::lent::{room_lengths, Entry, Guard, Lent};
@@ -12,7 +12,8 @@ use crate::lists;
 use crate::stored;
 use crate::tables;
 use crate::tally::assert_counts;
-use glospruma::{COMPARISON_ROOM, DIFFERENCE_LENGTH, MAX_POINTS, REPORT_ROOM, WRITTEN_ROOM};
+use glospruma::{PointRecord, WRITTEN_ROOM};
+use glospruma::{COMPARISON_ROOM, DIFFERENCE_LENGTH, FORM_ROOM, MAX_POINTS, REPORT_ROOM};
 use reference::generate::Generator;
 use reference::table::Table;
 use std::fmt::Debug;
@@ -115,6 +116,40 @@ fn comparing_calls(bytes: &[u8]) {
     }
 }
 
+/// The calls that take a form and a list of records: the index is built in lists of
+/// each length to try, and changed in rooms of each length to try for the new form; in
+/// a list that is too short, one room does.
+fn index_calls(bytes: &[u8]) {
+    let product = [0x50, 0x58, 1, 1, 0];
+    let lent = SIDES.map(|guard| [bytes, &product].map(|list| Lent::holding_at(guard, list)));
+    let form = |side: usize| lent[side][0].part();
+    let mut records = vec![PointRecord::default(); MAX_POINTS];
+    let found = lent_calls::index_build(bytes, &mut records);
+    let count = match found.refusal {
+        0 => 1 << found.variables,
+        _ => 0,
+    };
+    in_rooms(count, |side, list| library::index_build(form(side), list));
+    let append = |length: usize, side: usize, room: &mut [u8]| {
+        let mut list = Lent::room_of_at(SIDES[side], &records[..length]);
+        let product = lent[side][1].part();
+        let found = library::index_append(form(side), product, list.part_mut(), room);
+        (found, contents_of(&list))
+    };
+    let remove = |length: usize, side: usize, room: &mut [u8]| {
+        let mut list = Lent::room_of_at(SIDES[side], &records[..length]);
+        let found = library::index_remove(form(side), list.part_mut(), room);
+        (found, contents_of(&list))
+    };
+    let removed = lent_calls::index_remove(bytes, &mut records.clone(), &mut [0; FORM_ROOM]);
+    let (short, exact) = (count.saturating_sub(1), count);
+    in_room(FORM_ROOM, &mut |side, room| append(short, side, room));
+    in_room(FORM_ROOM, &mut |side, room| remove(short, side, room));
+    let appended = found.length + product.len();
+    in_rooms(appended, |side, room| append(exact, side, room));
+    in_rooms(removed.length, |side, room| remove(exact, side, room));
+}
+
 /// Every call that takes bytes.
 fn byte_calls(bytes: &[u8]) {
     let lent = SIDES.map(|guard| Lent::holding_at(guard, bytes));
@@ -138,6 +173,7 @@ fn byte_calls(bytes: &[u8]) {
         });
     }
     comparing_calls(bytes(0));
+    index_calls(bytes(0));
 }
 
 /// Good tables of every size and kind, and faulty lists: some hundred.

@@ -2,11 +2,13 @@
 //! library: where it lists faults of the bytes, number and place are those of the
 //! first; where it lists none, no such number is given, and the place is 0. The
 //! first judge, the walk, is behind every answer of the reference. Follows document
-//! 02, No. 3.
+//! 02, No. 3 and No. 5.
 
 use reference::faults::{self, Fault};
-use reference::refusal::WITH_PLACE;
+use reference::form::MOST_PRODUCTS;
+use reference::refusal::{TOO_MANY_PRODUCTS, WITH_PLACE};
 use reference::table;
+use reference::walk::KIND_END;
 
 /// The number and the place of an answer.
 pub type Refused = (u8, usize);
@@ -43,6 +45,20 @@ pub fn assert_tables(left: &[u8], right: &[u8], answer: Refused) {
 /// Judges an answer on a form.
 pub fn assert_form(bytes: &[u8], answer: Refused) {
     assert_first(faults::of_form(bytes).first(), answer, bytes);
+}
+
+/// Judges an answer on a form and a product to be appended to it, whose faults count
+/// if the form has none. A 65th product is refused with 27 and place 0.
+pub fn assert_appended(form: &[u8], product: &[u8], answer: Refused) {
+    let (of_form, n) = (faults::of_form(form), form.get(1).copied());
+    if !of_form.is_empty() {
+        return assert_first(of_form.first(), answer, form);
+    }
+    let of_product = faults::of_product(n.expect("a form has one"), product);
+    let is_full = form.ends_with(&[KIND_END, MOST_PRODUCTS as u8, 0]);
+    if !of_product.is_empty() || !is_full || answer != (TOO_MANY_PRODUCTS, 0) {
+        assert_first(of_product.first(), answer, product);
+    }
 }
 
 /// Judges the report of a stored table, which prints number and place.

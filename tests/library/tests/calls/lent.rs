@@ -1,10 +1,11 @@
 //! Memory lent to a call: on one side it touches a page that may not be touched,
 //! on the other a pattern stands beside it. A list may only be read; a room is
-//! filled with a pattern and compared after the call: as lent after a refusal, and
-//! as lent beyond the answer after acceptance. Follows document 01, section
-//! "Refusal numbers".
+//! filled with a pattern, or with what the call is to change, and compared after the
+//! call: as lent after a refusal, and as lent beyond the answer after acceptance.
+//! Follows document 01, section "Refusal numbers".
 
 use crate::pages::Pages;
+use library::PointRecord;
 use reference::generate::Generator;
 use std::cell::RefCell;
 use std::fmt::Debug;
@@ -45,6 +46,19 @@ impl Entry for u16 {
     fn pattern() -> &'static [u16] {
         static POINTS: OnceLock<Vec<u16>> = OnceLock::new();
         POINTS.get_or_init(|| pattern_of(|number| number as u16 | 0x8000))
+    }
+}
+
+impl Entry for PointRecord {
+    /// The highest bit of the count is set, so that no record is taken for the
+    /// pattern.
+    fn pattern() -> &'static [PointRecord] {
+        static RECORDS: OnceLock<Vec<PointRecord>> = OnceLock::new();
+        let record = |number: u64| PointRecord {
+            count: number as u16 | 0x8000,
+            first: (number >> 16) as u16,
+        };
+        RECORDS.get_or_init(|| pattern_of(record))
     }
 }
 
@@ -110,9 +124,13 @@ impl<T: Entry> Lent<T> {
     /// Room of so many entries, filled with a pattern that differs from length to
     /// length.
     pub fn room_at(guard: Guard, length: usize) -> Lent<T> {
-        let (beside, others) = T::pattern().split_at(BESIDE);
-        let part = &others[length % 64..][..length];
-        Lent::new(guard, part, beside, Pages::written)
+        let others = &T::pattern()[BESIDE..];
+        Lent::room_of_at(guard, &others[length % 64..][..length])
+    }
+
+    /// Room that holds the given entries, for a call to read and to change.
+    pub fn room_of_at(guard: Guard, entries: &[T]) -> Lent<T> {
+        Lent::new(guard, entries, &T::pattern()[..BESIDE], Pages::written)
     }
 
     /// Memory that holds the given entries, for a call to read; writing to it
@@ -124,6 +142,11 @@ impl<T: Entry> Lent<T> {
     /// As `room_at`, with the guard page on either side.
     pub fn room(length: usize) -> Lent<T> {
         Lent::room_at(Guard::next(), length)
+    }
+
+    /// As `room_of_at`, with the guard page on either side.
+    pub fn room_of(entries: &[T]) -> Lent<T> {
+        Lent::room_of_at(Guard::next(), entries)
     }
 
     /// As `holding_at`, with the guard page on either side.
@@ -234,6 +257,10 @@ fn guard_pages_and_lists_that_may_only_be_read() {
         let room = |guard| accesses(&Lent::<u16>::room_at(guard, length));
         assert_eq!(room(Guard::Behind), ["rw", "rw", "rw", "--"]);
         assert_eq!(room(Guard::Before), ["--", "rw", "rw", "rw"]);
+        let records = vec![PointRecord::default(); length];
+        let changed = |guard| accesses(&Lent::room_of_at(guard, &records));
+        assert_eq!(changed(Guard::Behind), ["rw", "rw", "rw", "--"]);
+        assert_eq!(changed(Guard::Before), ["--", "rw", "rw", "rw"]);
         let list = |guard| accesses(&Lent::holding_at(guard, &vec![0u8; length]));
         assert_eq!(list(Guard::Behind), ["r-", "r-", "r-", "--"]);
         assert_eq!(list(Guard::Before), ["--", "r-", "r-", "r-"]);

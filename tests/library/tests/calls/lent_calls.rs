@@ -1,10 +1,11 @@
 //! The calls for tests that have their lists and rooms in plain memory: each is
 //! made on a copy in lent memory, and what it left in a room is copied back.
-//! Follows document 01, section "Refusal numbers", and document 02, No. 1 and No. 3.
+//! Follows document 01, section "Refusal numbers", and document 02, No. 1, No. 3 and
+//! No. 5.
 
 use crate::lent::{Entry, Lent};
 use library::{Affine, Analysis, Comparison, Completion, FormPoints, FormRewrite};
-use library::{FormWritten, LinearSpace, Listed, Report, TableRead};
+use library::{FormWritten, Indexed, LinearSpace, Listed, PointRecord, Report, TableRead};
 
 /// Makes a call in a copy of a room; memory beside it must be as lent.
 fn in_copy<E: Entry, N>(room: &mut [E], call: impl FnOnce(&mut [E]) -> N) -> N {
@@ -82,6 +83,32 @@ pub fn form_points(bytes: &[u8], room: &mut [u16]) -> FormPoints {
 pub fn form_rewrite(bytes: &[u8], room: &mut [u8]) -> FormRewrite {
     let bytes = Lent::holding(bytes);
     in_copy(room, |room| library::form_rewrite(bytes.part(), room))
+}
+
+pub fn index_build(form: &[u8], list: &mut [PointRecord]) -> Indexed {
+    let form = Lent::holding(form);
+    in_copy(list, |list| library::index_build(form.part(), list))
+}
+
+pub fn index_append(
+    form: &[u8],
+    product: &[u8],
+    list: &mut [PointRecord],
+    room: &mut [u8],
+) -> Indexed {
+    let (form, product) = (Lent::holding(form), Lent::holding(product));
+    in_copy(list, |list| {
+        in_copy(room, |room| {
+            library::index_append(form.part(), product.part(), list, room)
+        })
+    })
+}
+
+pub fn index_remove(form: &[u8], list: &mut [PointRecord], room: &mut [u8]) -> Indexed {
+    let form = Lent::holding(form);
+    in_copy(list, |list| {
+        in_copy(room, |room| library::index_remove(form.part(), list, room))
+    })
 }
 
 pub fn report(bytes: &[u8], room: &mut [u8]) -> Report {

@@ -2,12 +2,13 @@
 //! to a call; `cases`, `examples`, `published` and `vectors` compare with fixed
 //! answers instead. `damaged_bytes` and `damaged_lists` make all calls on inputs
 //! damaged at random, `places` makes those that read bytes on inputs with faults at
-//! every place, `largest_space` checks what must hold of completed functions,
-//! `guarded` makes every call on the same input twice, with guard pages
-//! on either side, `small_stack` makes them with little stack, and `safe` makes the
-//! safe calls of the Rust package. Follows document 01, sections
-//! "Points and spaces", "Primes", "The written form", "Refusal numbers", "The
-//! printed report" and "Table of proved examples", and document 02.
+//! every place, `largest_space` checks what must hold of completed functions and
+//! `index_runs` what must hold of an index after each of many changes, `guarded` makes
+//! every call on the same input twice, with guard pages on either side, `small_stack`
+//! makes them with little stack, and `safe` makes the safe calls of the Rust package.
+//! Follows document 01, sections "Points and spaces", "Primes", "The written form",
+//! "Refusal numbers", "The printed report" and "Table of proved examples", and document
+//! 02.
 //!
 //! Every list, every room and all bytes of every call stand in memory of `lent`,
 //! beside a page that may not be touched. A further call takes a module here with
@@ -33,6 +34,8 @@ mod compare;
 mod complete;
 mod form_points;
 mod form_rewrite;
+mod index;
+mod index_runs;
 mod linear_space;
 mod list_primes;
 mod read_table;

@@ -1,25 +1,28 @@
 //! Number and place of every fault of bytes: every cut and every changed byte of some
 //! hundred small tables and forms, two changed bytes at a time, inputs about the
-//! longest table, and forms of 64 products and more. Every answer is compared with
-//! both judges of the reference, and with numbers written here where the document
-//! names them. Follows document 02, No. 3.
+//! longest table, forms of 64 products and more, and the same of products to be
+//! appended. Every answer is compared with both judges of the reference, and with
+//! numbers written here where the document names them. Follows document 02, No. 3 and
+//! No. 5.
 
 use crate::compare;
 use crate::form_points;
 use crate::form_rewrite;
+use crate::index::{self, product_bytes, records_of, Call};
 use crate::judges::Refused;
 use crate::lent_calls;
 use crate::read_table;
 use crate::stored::{self, ABOVE};
 use crate::tally::{assert_counts, Tally};
-use glospruma::{COMPARISON_ROOM, MAX_POINTS, MAX_VARIABLES, REPORT_ROOM, TABLE_LENGTH};
+use glospruma::{COMPARISON_ROOM, FORM_ROOM, MAX_POINTS, MAX_VARIABLES};
+use glospruma::{REPORT_ROOM, TABLE_LENGTH};
 use library::settings::{some, taken};
-use library::{Comparison, FormPoints, FormRewrite, TableRead};
+use library::{Comparison, FormPoints, FormRewrite, Indexed, PointRecord, TableRead};
 use reference::faults;
 use reference::form::{self, Form, MOST_PRODUCTS};
 use reference::generate::{self, Generator};
 use reference::table::{self, Table};
-use reference::walk::{self, KIND_END, KIND_ON, KIND_PRODUCT, KIND_VARIABLES};
+use reference::walk::{self, KIND_END, KIND_FACTOR, KIND_ON, KIND_PRODUCT, KIND_VARIABLES};
 
 /// Small inputs of each number of variables.
 const ROUNDS: usize = 17;
@@ -313,6 +316,78 @@ fn forms_of_64_products_and_more() {
     tally.finish(&[0, 20, 21, 22, 25, 26, 27]);
 }
 
+/// A form to append to, its list, and a product of a few factors for it.
+type Appending = (Vec<u8>, Vec<PointRecord>, Vec<u8>);
+
+/// Small forms and products of each number of variables.
+fn appendings(seed: u64, rounds: usize) -> Vec<Appending> {
+    let mut generator = Generator::new(seed);
+    let widths = (0..rounds).flat_map(|_| 1..=MAX_VARIABLES);
+    let appending = |n| {
+        let form = small_form(&mut generator, n);
+        let mut product = generate::random_product(&mut generator, n);
+        product.truncate(FEW_FACTORS);
+        let bytes = product_bytes(n, &product);
+        (form::encode(&form), records_of(&form), bytes)
+    };
+    widths.map(appending).collect()
+}
+
+/// Appends a product; hands back number and place.
+fn product_refused(tally: &mut Tally, (form, list, _): &Appending, product: &[u8]) -> Refused {
+    let call = Call::Append(product);
+    let (found, ..) = index::compare(tally, form, call, list, FORM_ROOM);
+    (found.refusal, found.place)
+}
+
+/// A cut between two records is a product of fewer factors; any other is missing bytes
+/// where it ends.
+#[test]
+fn small_products_cut_and_changed() {
+    let mut tally = Tally::new("places, small products cut and changed");
+    for appending in &appendings(246, 3) {
+        let whole = &appending.2;
+        for cut in generate::cuts(whole) {
+            let is_whole = cut.len() % 4 == 1;
+            let expected = if is_whole { (0, 0) } else { (21, cut.len()) };
+            assert_eq!(product_refused(&mut tally, appending, &cut), expected);
+        }
+        for changed in some(generate::every_changed_byte(whole)) {
+            product_refused(&mut tally, appending, &changed);
+        }
+        for byte in some(0..=255) {
+            let longer = [&whole[..], &[byte]].concat();
+            let expected = match byte {
+                KIND_FACTOR => (21, longer.len()),
+                _ => (20, whole.len()),
+            };
+            assert_eq!(product_refused(&mut tally, appending, &longer), expected);
+        }
+    }
+    tally.finish(&[0, 20, 21, 23, 24]);
+}
+
+/// Two bytes of a product changed at random, after a form that is right or cut.
+#[test]
+fn two_bytes_of_a_product_changed() {
+    let mut tally = Tally::new("places, two bytes of a product changed");
+    let mut generator = Generator::new(247);
+    let mut all = appendings(248, 20);
+    all.retain(|(form, ..)| form[1] <= QUICK);
+    for _ in 0..taken(60_000) {
+        let (mut form, list, mut product) = all[generator.below(all.len())].clone();
+        for _ in 0..2 {
+            let place = generator.below(product.len());
+            product[place] = generate::telling_byte(&mut generator);
+        }
+        if generator.chance(5) {
+            form.pop();
+        }
+        product_refused(&mut tally, &(form, list, vec![]), &product);
+    }
+    tally.finish(&[0, 20, 21, 23, 24]);
+}
+
 /// The numbers of a call that is refused without a place, all others 0.
 macro_rules! refused {
     ($numbers:ident, $refusal:expr) => {
@@ -348,6 +423,12 @@ fn place_0_with_every_other_refusal() {
     assert_eq!(points, refused!(FormPoints, 7));
     let rewritten = lent_calls::form_rewrite(&form, &mut [0; 5]);
     assert_eq!(rewritten, refused!(FormRewrite, 7));
+    let none = [PointRecord::default(); 4];
+    let built = lent_calls::index_build(&form, &mut [PointRecord::default(); 3]);
+    assert_eq!(built, refused!(Indexed, 7));
+    let removed = |form: &[u8]| lent_calls::index_remove(form, &mut none.clone(), &mut [0; 4]);
+    assert_eq!(removed(&form), refused!(Indexed, 17));
+    assert_eq!(removed(&[0x4E, 2, 0x45, 0, 0]), refused!(Indexed, 12));
 }
 
 #[test]
@@ -368,5 +449,13 @@ fn place_0_when_accepted() {
     assert_eq!(
         (rewritten.refusal, rewritten.place, rewritten.length),
         (0, 0, 6)
+    );
+    let mut list = [PointRecord::default(); 4];
+    let built = lent_calls::index_build(&form, &mut list);
+    assert_eq!((built.refusal, built.place, built.length), (0, 0, 6));
+    let appended = lent_calls::index_append(&form, &[0x50], &mut list, &mut [0; 7]);
+    assert_eq!(
+        (appended.refusal, appended.place, appended.length),
+        (0, 0, 7)
     );
 }

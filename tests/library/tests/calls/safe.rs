@@ -1,19 +1,19 @@
 //! The safe calls of the Rust package compared with its raw ones, which the other
 //! tests compare with the reference: an answer has the same numbers and the front
 //! of the room, and a refusal its number, with its place from a call that reads
-//! bytes. Follows document 01, section "Refusal numbers", and document 02, No. 1 and
-//! No. 3.
+//! bytes. Follows document 01, section "Refusal numbers", and document 02, No. 1, No. 3
+//! and No. 5.
 
 use crate::compare::stored_pairs;
 use crate::guarded::{some_bytes, some_tables};
 use crate::lent::{Entry, Lent};
 use crate::lent_calls;
 use crate::stored;
-use glospruma::{Difference, Refusal, Refused};
+use glospruma::{Difference, Index, Refusal, Refused, NO_PRODUCT};
 use glospruma::{COMPARISON_ROOM, DIFFERENCE_LENGTH, RECORD_LENGTH};
 use glospruma::{MAX_LISTED, MAX_POINTS, MAX_VARIABLES, TABLE_LENGTH};
 use library::{Affine, Analysis, Comparison, Completion, FormPoints, FormRewrite};
-use library::{FormWritten, LinearSpace, Listed, Report, TableRead};
+use library::{FormWritten, Indexed, LinearSpace, Listed, PointRecord, Report, TableRead};
 use reference::calls;
 use reference::table::{Table, LONGEST_STORED, MOST_POINTS, MOST_VARIABLES};
 use std::fmt::Debug;
@@ -267,6 +267,64 @@ fn form_and_report(bytes: &[u8], length: usize) {
     other.assert_front(&room);
 }
 
+/// What a safe call on an index gives; every point must be found as its record says,
+/// and no other.
+fn indexed(found: Index) -> Indexed {
+    assert_eq!(found.records.len(), 1 << found.variables);
+    for (point, record) in (0..).zip(found.records) {
+        let holders = found.lookup(point).expect("a point of the form");
+        let as_record = holders.map_or(PointRecord::default(), |holders| PointRecord {
+            count: holders.count as u16,
+            first: holders.first as u16,
+        });
+        assert_eq!(as_record, *record, "point {point}");
+    }
+    assert_eq!(found.lookup(1 << found.variables), Err(Refusal::Point));
+    Indexed {
+        refusal: 0,
+        place: 0,
+        variables: found.variables,
+        length: found.form.len(),
+        products: found.products,
+    }
+}
+
+/// The calls on an index of bytes as a form: the list is built, changed by a product
+/// and changed back.
+fn indices(bytes: &[u8], length: usize) {
+    let lent = Lent::holding(bytes);
+    let bytes = lent.part();
+    let (mut list, mut other_list) = equal_rooms(length.min(MAX_POINTS));
+    let raw = lent_calls::index_build(bytes, &mut list);
+    let safe = glospruma::index_build(bytes, other_list.part_mut());
+    compare(raw, safe, indexed, refused_at!(Indexed));
+    let (mut room, mut other) = equal_rooms(length);
+    let mut changed = 0;
+    for product in [&[0x50, 0x58, 1, 1, 0][..], &[0x50, 0x58, 1]] {
+        let raw = lent_calls::index_append(bytes, product, &mut list, &mut room);
+        let (list, other) = (other_list.part_mut(), other.part_mut());
+        let appended = |found: Index| {
+            assert_eq!(found.form, &room[..raw.length]);
+            indexed(found)
+        };
+        let safe = glospruma::index_append(bytes, product, list, other);
+        compare(raw, safe, appended, refused_at!(Indexed));
+        changed = changed.max(raw.length);
+    }
+    other.assert_front(&room);
+    let form = if changed > 0 { &room[..changed] } else { bytes };
+    let (mut back, mut other_back) = equal_rooms(length);
+    let raw = lent_calls::index_remove(form, &mut list, &mut back);
+    let removed = |found: Index| {
+        assert_eq!(found.form, &back[..raw.length]);
+        indexed(found)
+    };
+    let safe = glospruma::index_remove(form, other_list.part_mut(), other_back.part_mut());
+    compare(raw, safe, removed, refused_at!(Indexed));
+    other_list.assert_front(&list);
+    other_back.assert_front(&back);
+}
+
 #[test]
 fn tables() {
     for table in some_tables() {
@@ -283,6 +341,7 @@ fn bytes() {
         for length in ROOMS {
             stored_table(&bytes, length);
             form_and_report(&bytes, length);
+            indices(&bytes, length);
         }
     }
 }
@@ -311,4 +370,5 @@ fn numbers_of_the_reference() {
     assert_eq!(MAX_LISTED, reference::primes::MOST_LISTED);
     assert_eq!(RECORD_LENGTH, reference::primes::RECORD_LENGTH);
     assert_eq!(DIFFERENCE_LENGTH, reference::compare::DIFFERENCE_LENGTH);
+    assert_eq!(NO_PRODUCT, reference::index::NO_PRODUCT);
 }

@@ -1,11 +1,11 @@
 //! Every call in a thread with as little stack as include/glospruma.h asks for;
 //! one that used more would touch the thread's guard page and stop the test. The
 //! program `stack` prints what each call uses. Follows document 01, section "What
-//! the library holds", and document 02, No. 1, No. 3 and No. 4.
+//! the library holds", and document 02, No. 1, No. 3, No. 4 and No. 5.
 
 use crate::lent_calls;
 use crate::stored;
-use glospruma::{MAX_POINTS, MAX_VARIABLES, REPORT_ROOM, WRITTEN_ROOM};
+use glospruma::{PointRecord, FORM_ROOM, MAX_POINTS, MAX_VARIABLES, REPORT_ROOM, WRITTEN_ROOM};
 use reference::completion::MOST_CLOSURE_VARIABLES;
 use reference::generate::{self, Generator};
 use reference::table::Table;
@@ -41,8 +41,27 @@ fn make_calls((n, on, free): &Table) {
         let cut = &form[..form.len() - 1];
         let refused = lent_calls::form_points(cut, &mut points);
         assert_eq!((refused.refusal, refused.place), (21, cut.len()));
+        make_index_calls(form);
     }
     assert_eq!(lent_calls::report(&bytes, &mut text).refusal, 0);
+}
+
+/// Makes every call that builds or changes the index of a form.
+fn make_index_calls(form: &[u8]) {
+    let mut list = vec![PointRecord::default(); MAX_POINTS];
+    let (mut room, mut back) = (vec![0; FORM_ROOM], vec![0; FORM_ROOM]);
+    let built = lent_calls::index_build(form, &mut list);
+    assert_eq!((built.refusal, built.length), (0, form.len()));
+    let appended = lent_calls::index_append(form, &[0x50], &mut list, &mut room);
+    assert_eq!(
+        (appended.refusal, appended.products),
+        (0, built.products + 1)
+    );
+    let refused = lent_calls::index_remove(form, &mut list, &mut back);
+    assert_eq!(refused.refusal, 17);
+    let removed = lent_calls::index_remove(&room[..appended.length], &mut list, &mut back);
+    assert_eq!((removed.refusal, removed.products), (0, built.products));
+    assert_eq!(&back[..removed.length], form);
 }
 
 #[test]

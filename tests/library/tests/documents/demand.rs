@@ -83,27 +83,44 @@ fn contracts(code: &str) -> BTreeMap<String, Said> {
     exported.map(contract).collect()
 }
 
-/// The lines of Demand 1 that speak of a call, by their names.
-fn lines(demand: &str) -> BTreeMap<String, Said> {
+/// The fields of Demand 1, each with its name and without its comments.
+fn demand_fields(demand: &str) -> Vec<(String, String)> {
     let (_, fields) = demand
         .split_once("pub record Demand1 ")
         .expect("the record");
-    let line = |field: &str| {
+    let field = |field: &str| {
         let name = field.split(' ').next().expect("a name").to_string();
         let uncommented = field.lines().filter(|line| !line.trim().starts_with("--"));
-        let field = plain(&uncommented.collect::<Vec<&str>>().join(" "));
+        (name, plain(&uncommented.collect::<Vec<&str>>().join(" ")))
+    };
+    fields.split("\n  pub ").skip(1).map(field).collect()
+}
+
+/// The lent list of records of a call, and the term for what it holds afterwards,
+/// from its own line, which has the call's name and `list`.
+fn lent_list(fields: &[(String, String)], name: &str) -> Option<(String, String)> {
+    let line = format!("{name}-list");
+    let (_, field) = fields.iter().find(|(name, _)| *name == line)?;
+    let arguments = parts(field.split_once("→ LentList ")?.1);
+    Some((arguments[2].clone(), bare(&arguments[3]).to_string()))
+}
+
+/// The lines of Demand 1 that speak of a call, by their names. A list of records
+/// stands before a room, as among the parameters.
+fn lines(demand: &str) -> BTreeMap<String, Said> {
+    let fields = demand_fields(demand);
+    let line = |(name, field): &(String, String)| {
         let arguments = parts(field.split_once("→ Decides ")?.1);
         let room = |words: &[String]| (words[2].clone(), bare(&words[3]).to_string());
         let rooms = parts(bare(&arguments[6]));
-        Some((
-            name,
-            Said {
-                returned: bare(&arguments[5]).to_string(),
-                rooms: rooms.chunks_exact(5).map(room).collect(),
-            },
-        ))
+        let list = lent_list(&fields, name).into_iter();
+        let said = Said {
+            returned: bare(&arguments[5]).to_string(),
+            rooms: list.chain(rooms.chunks_exact(5).map(room)).collect(),
+        };
+        Some((name.clone(), said))
     };
-    fields.split("\n  pub ").skip(1).filter_map(line).collect()
+    fields.iter().filter_map(line).collect()
 }
 
 /// The calls of which the contract and Demand 1 don't say the same.
@@ -153,6 +170,7 @@ fn fields(name: &str) -> Vec<String> {
         "writing",
         "report",
         "analysis",
+        "index",
     ];
     let texts = code.map(|name| read(&format!("crates/{name}/src/lib.rt")));
     let opening = format!("pub struct {name} {{");
@@ -232,8 +250,9 @@ fn places(demand: &str) -> BTreeMap<String, (bool, bool)> {
 fn places_are_told() {
     let demand = read(DEMAND);
     let found = places(&demand);
-    assert_eq!(found.len(), contracts(&read(CODE)).len());
-    assert_eq!(found.values().filter(|(has, _)| *has).count(), 4);
+    // The three calls on an index give one kind of answer.
+    assert_eq!(found.len() + 2, contracts(&read(CODE)).len());
+    assert_eq!(found.values().filter(|(has, _)| *has).count(), 5);
     for (name, (has, told)) in found {
         assert_eq!(has, told, "{name}");
     }

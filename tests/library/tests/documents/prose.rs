@@ -11,13 +11,14 @@ use std::collections::BTreeSet;
 
 /// Words of that form that no crate and not the header defines: packages of Debian,
 /// variables of the environment, and names of the Rust package.
-const WORDS: [&str; 7] = [
+const WORDS: [&str; 8] = [
     "berkeley-abc",
     "cargo-web",
     "GLOSPRUMA_CASES",
     "GLOSPRUMA_LIB_DIR",
     "GLOSPRUMA_SEED",
     "GLOSPRUMA_SHARE",
+    "index_lookup",
     "VERSION",
 ];
 

@@ -6,8 +6,8 @@
 
 use crate::names::read;
 use crate::tables::{quoted, rows_under, Row};
-use glospruma::{form_points, form_rewrite, read_table, report, Refusal};
-use glospruma::{FORM_ROOM, MAX_POINTS, REPORT_ROOM};
+use glospruma::{form_points, form_rewrite, index_build, read_table, report, Refusal};
+use glospruma::{PointRecord, FORM_ROOM, MAX_POINTS, REPORT_ROOM};
 use reference::faults::{self, Fault};
 use std::collections::{BTreeMap, BTreeSet};
 use std::fmt::Display;
@@ -99,11 +99,11 @@ fn first(faults: &[Fault]) -> String {
 }
 
 /// What the library and the reference print of bytes that are read as a table.
-fn as_table(bytes: &[u8]) -> [String; 4] {
+fn as_table(bytes: &[u8]) -> Vec<String> {
     let (mut on, mut free) = ([0; MAX_POINTS], [0; MAX_POINTS]);
     let mut room = [0; REPORT_ROOM];
     let reported = report(bytes, &mut room).expect("a room that suffices");
-    [
+    vec![
         line(read_table(bytes, &mut on, &mut free)),
         reported.text.trim_end().to_string(),
         line(reference::table::read_stored(bytes)),
@@ -112,11 +112,13 @@ fn as_table(bytes: &[u8]) -> [String; 4] {
 }
 
 /// What they print of bytes that are read as a form.
-fn as_form(bytes: &[u8]) -> [String; 4] {
+fn as_form(bytes: &[u8]) -> Vec<String> {
     let (mut points, mut again) = ([0; MAX_POINTS], [0; FORM_ROOM]);
-    [
+    let mut list = [PointRecord::default(); MAX_POINTS];
+    vec![
         line(form_points(bytes, &mut points)),
         line(form_rewrite(bytes, &mut again)),
+        line(index_build(bytes, &mut list)),
         line(reference::form::read_form(bytes)),
         first(&faults::of_form(bytes)),
     ]
@@ -124,7 +126,7 @@ fn as_form(bytes: &[u8]) -> [String; 4] {
 
 /// Whether all readers print what an example says.
 fn holds(example: &Example) -> bool {
-    let is_so = |lines: [String; 4]| lines.iter().all(|line| *line == example.printed);
+    let is_so = |lines: Vec<String>| lines.iter().all(|line| *line == example.printed);
     example
         .read_as
         .iter()

@@ -6,12 +6,13 @@ use crate::tables::numbers;
 use std::collections::{BTreeMap, BTreeSet};
 
 /// Constants of the header that are no rooms.
-const OTHERS: [&str; 5] = [
+const OTHERS: [&str; 6] = [
     "MAX_VARIABLES",
     "MAX_LISTED",
     "MAX_SEARCHED",
     "RECORD_LENGTH",
     "DIFFERENCE_LENGTH",
+    "NO_PRODUCT",
 ];
 
 /// The number that a text begins with, with or without underscores.

@@ -7,6 +7,7 @@
 mod comparisons;
 mod completions;
 mod forms;
+mod indices;
 mod measure;
 mod plain;
 mod readings;
@@ -231,4 +232,5 @@ fn main() {
     forms::forms();
     comparisons::comparisons();
     readings::readings();
+    indices::indices();
 }

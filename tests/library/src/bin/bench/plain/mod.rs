@@ -5,7 +5,8 @@
 //! into a reduced basis; for completion, a search for the largest space inside the
 //! closure set over sets of four words; for primes, the table of all reduced bases,
 //! and for a form the first prime that holds a point; for a comparison, one mark to a
-//! point. And completion as source 003 has it, by growing a space.
+//! point; for an index, a test of every product at every point. And completion as
+//! source 003 has it, by growing a space.
 //! Follows document 01, sections "Points and spaces", "Primes", "The written form"
 //! and "The printed report", and document 02.
 
@@ -17,6 +18,7 @@ mod choice;
 mod compare;
 mod complete;
 mod growth;
+mod index;
 mod largest;
 mod linear_space;
 mod list_primes;
@@ -35,6 +37,7 @@ pub use analyse::analyse;
 pub use compare::compare;
 pub use complete::complete;
 pub use growth::complete_by_growth;
+pub use index::{index_append, index_build, index_remove, Way};
 pub use linear_space::linear_space;
 pub use list_primes::list_primes;
 pub use read_table::read_into_rooms;
