@@ -1,12 +1,10 @@
 -- `index_list::matches` meets its contract: a walk of its MIR, by hand. The list is a `&[PointRecord]`: one copy of what it owns is kept for the exit, and the other is looked into for the whole loop, which takes its lifetime's token. Each turn takes an element out of the row, reads it, puts it back, and passes it to `still`, which requires that the point is one of the form's (`bound-point`).
 -- The laws on lists are of the crate `index` (proofs/InPlace.antt), the small laws of both walks in Walk.antt. Assumes nothing.
 use mathlib.Core.Path.{_≡_, refl, sym, _∙_, ap}
-use Prim.Native.Nat.{ℕ, _+_, _-_, _*_, _<_, _≤_, _^_, zero-le}
+use Prim.Native.Nat.{ℕ, _+_, _*_, _<_, _≤_, _^_, zero-le}
 use native.Mathlib.Nat.{le-antisymm, lt-of-le-of-lt, lt-of-lt-of-le}
 use native.Mathlib.Numerals.{add-one-le, add-one-dec}
-use mathlib.Core.WellFounded.{WellFounded, InvImage·wf}
 use mathlib.Core.Bool.{Bool}
-use lib.WfN.{Nat·lt-wfRel}
 use lib.Dec.{T, ltb, ltb→lt, nltb→le, lit<}
 use mathlib.Core.List.{[], _∷_, List}
 use lib.ListN.{length, getD}
@@ -63,7 +61,7 @@ use Rattle.index_list.proofs.matches as matches′
 use Rattle.index_list.proofs.matches.Statement as stated
 use Rattle.index_list.proofs.matches.Code as code
 use Rattle.index_list.proofs.matches.Code.Mir as mir′
-use Rattle.index_list.proofs.Walk.{rest-of, fits-byte}
+use Rattle.index_list.proofs.Walk.{rest-of, fits-byte, Upto, Nearer, nearer-wf}
 use Rattle.index.proofs.InPlace.{bound-le, bound-point, agrees-none, agrees-next}
 
 abbrev stayed : Stays (matches′.ended .signature .params) (matches′.ended .kept)
@@ -174,16 +172,6 @@ module _ {M : Type 1} (𝓤 : URA M) (H : Heap 𝓤) (A : Atoms 𝓤) (W : Given
     many-fits : many < 2 ^ 64
     many-fits = lt-of-le-of-lt many-le (room .0)
 
-    -- the loop's variant: i with i ≤ many, ordered by what is left
-    abbrev Upto : Type 0
-    Upto = (i : ℕ) × (i ≤ many)
-
-    abbrev Nearer : Upto → Upto → Type 0
-    Nearer j i = many - j .0 < many - i .0
-
-    Nearer-wf : WellFounded Nearer
-    Nearer-wf = InvImage·wf (λ (i : Upto). many - i .0) (Nat·lt-wfRel .wf)
-
     module _ (𝓣 : Tables 𝓤 H) (fm : FmC 𝓤 H (W .laws) (𝓣 .C)) (known-b : Triple 𝓤 (𝓣 .C #index·bound) (Bound 𝓤 H A mem run)) (known-s : Triple 𝓤 (𝓣 .C #index·still) (Still 𝓤 H A mem run)) where
       module _ (h : Share) (l₀ l₁ l₂ l₃ l₄ l₅ l₆ l₇ l₈ l₉ l₁₀ : ℕ) where
         abbrev C : Calls 𝓤 H
@@ -196,17 +184,17 @@ module _ {M : Type 1} (𝓤 : URA M) (H : Heap 𝓤) (A : Atoms 𝓤) (W : Given
         En = (tyBool, l₀) ∷ (slice, l₁) ∷ (slice′, l₂) ∷ (word, l₃) ∷ (tyBool, l₄) ∷ (word, l₅) ∷ (word, l₆) ∷ (tyBool, l₇) ∷ (word, l₈) ∷ (tyPtr, l₉) ∷ (T′.mir, l₁₀) ∷ []
 
         -- the invariant: what the form owns, and its lifetime's token; what the list owns; the share h of its row, and the borrow that is open at it; and the locals, _k at 5 + 2 · (10 − k)
-        abbrev At : Upto → List (Item 𝓤)
+        abbrev At : Upto many → List (Item 𝓤)
         At i = ‵ Form ∷ ‵ (flft κ′ q′) ∷ ‵ Records ∷ ‵ (row T.the-row h ys b o) ∷ ‵ (fobor κ q (arr-parts (shares T.the-row) n .part h ys b o))
             ∷ ‵ (froom T′.mir l₁₀ 0) ∷ ‵ (fdies T′.mir l₁₀) ∷ ‵ (froom tyPtr l₉ 0) ∷ ‵ (fdies tyPtr l₉) ∷ ‵ (froom word l₈ 0) ∷ ‵ (fdies word l₈) ∷ ‵ (froom tyBool l₇ 0) ∷ ‵ (fdies tyBool l₇) ∷ ‵ (froom word l₆ 0) ∷ ‵ (fdies word l₆)
             ∷ ‵ (fat fullShare word l₅ 0 (vint w64 (i .0))) ∷ ‵ (fdies word l₅) ∷ ‵ (fat fullShare tyBool l₄ 0 (vbool (cur (i .0)))) ∷ ‵ (fdies tyBool l₄) ∷ ‵ (fat fullShare word l₃ 0 (vint w64 many)) ∷ ‵ (fdies word l₃)
             ∷ ‵ (fat fullShare slice′ l₂ 0 s′) ∷ ‵ (fdies slice′ l₂) ∷ ‵ (fat fullShare slice l₁ 0 s) ∷ ‵ (fdies slice l₁) ∷ ‵ (froom tyBool l₀ 0) ∷ ‵ (fdies tyBool l₀) ∷ []
 
         -- a turn's postcondition: it ends nearer to many, or the loop is left and the rest of the body runs
-        abbrev Turned : Upto → Out → SProp 𝓤
-        Turned i = afterTurn 𝓤 H (Below 𝓤 H A Nearer At i) (afterBlock 𝓤 H (afterSeq 𝓤 H (Wp 𝓤 H C Λ En mir′.t-6 (atReturn 𝓤 H En Post)) (atReturn 𝓤 H En Post)))
+        abbrev Turned : Upto many → Out → SProp 𝓤
+        Turned i = afterTurn 𝓤 H (Below 𝓤 H A (Nearer many) At i) (afterBlock 𝓤 H (afterSeq 𝓤 H (Wp 𝓤 H C Λ En mir′.t-6 (atReturn 𝓤 H En Post)) (atReturn 𝓤 H En Post)))
 
-        turns : (i : Upto) → Sq W (At i) (runs C Λ En mir′.turn-1 (anyQ (Turned i)))
+        turns : (i : Upto many) → Sq W (At i) (runs C Λ En mir′.turn-1 (anyQ (Turned i)))
         unfolding afterTurn
         turns i =
             assigns ! (bin ! (load ! (from ! (stop !)) (look ! 15 refl)) (load ! (from ! (stop !)) (look ! 19 refl)) tt) (from ! (stop !)) (init ! 11 refl (tt, tt)) $
@@ -232,7 +220,7 @@ module _ {M : Type 1} (𝓤 : URA M) (H : Heap 𝓤) (A : Atoms 𝓤) (W : Given
             land ! (from ! (stop !)) (store ! 17 refl (bool-lawful 𝓤 H A W .typed t _ t-is .0)) $ rewrite ! 17 (λ (u : Val). ‵ (fat fullShare tyBool l₄ 0 u)) (ap only t-is ∙ ap vbool (e ∙ agrees-next ns ys (i .0))) refl $
             assigns-last ! (bin ! (load ! (from ! (stop !)) (look ! 15 refl)) (lit ! tt) (record { fits = fits (next less) })) (from ! (stop !)) (store ! 15 refl (tt, record { fits = fits (next less) })) $
             forget ! 5 refl $ forget ! 7 refl $ forget ! 9 refl $ forget ! 11 refl $
-            again ! Nearer At i (next less) (add-one-dec many (i .0) (ltb→lt (i .0) many less))))))))
+            again ! (Nearer many) At i (next less) (add-one-dec many (i .0) (ltb→lt (i .0) many less))))))))
             (λ over. jumps ! $ exec ! C Λ En mir′.t-6 (atRet En Post) $
             move ! (3 ∷ 4 ∷ []) $ shuts-slice ! tt T.the-row h ys b o $
             -- [the token; what form owns; its token; what list owns; the locals, _k at 4 + 2 · (10 − k)]
@@ -242,10 +230,10 @@ module _ {M : Type 1} (𝓤 : URA M) (H : Heap 𝓤) (A : Atoms 𝓤) (W : Given
             move ! (12 ∷ 13 ∷ []) $ free1 ! $ move ! (10 ∷ 11 ∷ []) $ free1 ! $ move ! (8 ∷ 9 ∷ []) $ free1 ! $ move ! (6 ∷ 7 ∷ []) $ free1 ! $ move ! (4 ∷ 5 ∷ []) $ free1 ! $ free0 ! $
             by ! (exits (cur (i .0)) (ap cur (le-antisymm (i .1) (nltb→le (i .0) many over)))))
           where
-            elem : Upto → PointRecord
+            elem : Upto many → PointRecord
             elem j = getD ys (j .0) noRecord
 
-            fits : (j : Upto) → j .0 < 2 ^ 64
+            fits : (j : Upto many) → j .0 < 2 ^ 64
             fits j = lt-of-le-of-lt (j .1) many-fits
 
             within : T (ltb (i .0) many) → i .0 < n
@@ -255,14 +243,14 @@ module _ {M : Type 1} (𝓤 : URA M) (H : Heap 𝓤) (A : Atoms 𝓤) (W : Given
             of-form : T (ltb (i .0) many) → HasPoint ns (i .0)
             of-form less = bound-point ns n (i .0) (ltb→lt (i .0) many less)
 
-            next : T (ltb (i .0) many) → Upto
+            next : T (ltb (i .0) many) → Upto many
             next less = (i .0 + 1, add-one-le (ltb→lt (i .0) many less))
 
             at-byte : T (ltb (i .0) many) → i .0 * 4 < 2 ^ 64
             at-byte less = fits-byte (i .0) n (within less) (room .1)
 
         looped : Sq W (At (0, zero-le)) (runs C Λ En mir′.t-5 (atRet En Post))
-        looped = first ! $ blocks ! $ loops ! 𝓣 Nearer Nearer-wf At turns (0, zero-le)
+        looped = first ! $ blocks ! $ loops ! 𝓣 (Nearer many) (nearer-wf many) At turns (0, zero-le)
 
       walk : ent 𝓤 (onEntry 𝓤 H A matches′.signature (κ, (κ′, tt)) (q, (q′, tt)) a vals) (WpFn 𝓤 H (𝓣 .C) (𝓣 .Λ) code.function (s ∷ s′ ∷ []) Post)
       walk =

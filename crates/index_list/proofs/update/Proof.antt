@@ -1,11 +1,9 @@
 -- `index_list::update` meets its contract: a walk of its MIR, by hand. `reach` says how many records are changed; each turn takes an element out of the row, passes it to `changed`, and puts the result in its place. The bytes are a `&[u8]`: what they own can be had twice, so each call gets a copy. What `update` requires gives what the two require: `few` goes to `reach`, and `each` to `changed`, since element i is still that of the list at entry (`first-at`).
 -- The laws on lists are of the crate `index` (proofs/InPlace.antt), the small laws of both walks in Walk.antt. Assumes nothing.
 use mathlib.Core.Path.{_≡_, refl, sym, _∙_, ap, subst}
-use Prim.Native.Nat.{ℕ, _+_, _-_, _*_, _<_, _≤_, _^_, zero-le}
+use Prim.Native.Nat.{ℕ, _+_, _*_, _<_, _≤_, _^_, zero-le}
 use native.Mathlib.Nat.{le-antisymm, lt-of-le-of-lt, lt-of-lt-of-le}
 use native.Mathlib.Numerals.{add-one-le, add-one-dec}
-use mathlib.Core.WellFounded.{WellFounded, InvImage·wf}
-use lib.WfN.{Nat·lt-wfRel}
 use lib.Dec.{T, ltb, ltb→lt, nltb→le, lit<}
 use mathlib.Core.List.{[], _∷_, List}
 use lib.ListN.{length, getD, set}
@@ -67,7 +65,7 @@ use Rattle.index_list.proofs.update as update′
 use Rattle.index_list.proofs.update.Statement as stated
 use Rattle.index_list.proofs.update.Code as code
 use Rattle.index_list.proofs.update.Code.Mir as mir′
-use Rattle.index_list.proofs.Walk.{rest-of, fits-byte}
+use Rattle.index_list.proofs.Walk.{rest-of, fits-byte, Upto, Nearer, nearer-wf}
 use Rattle.index.proofs.InPlace.{first-none, first-length, first-at, first-next, reach-le}
 
 abbrev stayed : Stays (update′.ended .signature .params) (update′.ended .kept)
@@ -192,16 +190,6 @@ module _ {M : Type 1} (𝓤 : URA M) (H : Heap 𝓤) (A : Atoms 𝓤) (W : Given
     many-fits : many < 2 ^ 64
     many-fits = lt-of-le-of-lt many-le (room .0)
 
-    -- the loop's variant: i with i ≤ many, ordered by what is left
-    abbrev Upto : Type 0
-    Upto = (i : ℕ) × (i ≤ many)
-
-    abbrev Nearer : Upto → Upto → Type 0
-    Nearer j i = many - j .0 < many - i .0
-
-    Nearer-wf : WellFounded Nearer
-    Nearer-wf = InvImage·wf (λ (i : Upto). many - i .0) (Nat·lt-wfRel .wf)
-
     module _ (𝓣 : Tables 𝓤 H) (fm : FmC 𝓤 H (W .laws) (𝓣 .C)) (known-r : Triple 𝓤 (𝓣 .C #index·reach) (Reach 𝓤 H A mem run)) (known-c : Triple 𝓤 (𝓣 .C #index·changed) (Changed 𝓤 H A mem run)) where
       module _ (l₀ l₁ l₂ l₃ l₄ l₅ l₆ l₇ l₈ l₉ l₁₀ l₁₁ l₁₂ l₁₃ l₁₄ : ℕ) where
         abbrev C : Calls 𝓤 H
@@ -214,7 +202,7 @@ module _ {M : Type 1} (𝓤 : URA M) (H : Heap 𝓤) (A : Atoms 𝓤) (W : Given
         En = (tyUnit, l₀) ∷ (slice, l₁) ∷ (slice′, l₂) ∷ (P′.mir, l₃) ∷ (byte, l₄) ∷ (word, l₅) ∷ (word, l₆) ∷ (word, l₇) ∷ (tyBool, l₈) ∷ (T′.mir, l₉) ∷ (word, l₁₀) ∷ (tyPtr, l₁₁) ∷ (T′.mir, l₁₂) ∷ (word, l₁₃) ∷ (tyPtr, l₁₄) ∷ []
 
         -- the invariant: what the bytes own, and their lifetime's token; the row at the list after i turns; the open borrow, obs and auth; and the locals, _k at 6 + 2 · (14 − k)
-        abbrev At : Upto → List (Item 𝓤)
+        abbrev At : Upto many → List (Item 𝓤)
         At i = ‵ Bytes ∷ ‵ (flft κ′ q′) ∷ ‵ (row T.the-row fullShare (cur (i .0)) b o) ∷ ‵ (fobor κ q (Held T.the-row n b o γ)) ∷ ‵ (fobs γ (codedHoleys T.the-row .code (heres T.the-row ys))) ∷ ‵ (fauth γ (codedHoleys T.the-row .code (heres T.the-row ys)))
             ∷ ‵ (froom tyPtr l₁₄ 0) ∷ ‵ (fdies tyPtr l₁₄) ∷ ‵ (froom word l₁₃ 0) ∷ ‵ (fdies word l₁₃) ∷ ‵ (froom T′.mir l₁₂ 0) ∷ ‵ (fdies T′.mir l₁₂) ∷ ‵ (froom tyPtr l₁₁ 0) ∷ ‵ (fdies tyPtr l₁₁)
             ∷ ‵ (froom word l₁₀ 0) ∷ ‵ (fdies word l₁₀) ∷ ‵ (froom T′.mir l₉ 0) ∷ ‵ (fdies T′.mir l₉) ∷ ‵ (froom tyBool l₈ 0) ∷ ‵ (fdies tyBool l₈) ∷ ‵ (froom word l₇ 0) ∷ ‵ (fdies word l₇)
@@ -222,10 +210,10 @@ module _ {M : Type 1} (𝓤 : URA M) (H : Heap 𝓤) (A : Atoms 𝓤) (W : Given
             ∷ ‵ (fat fullShare slice′ l₂ 0 s′) ∷ ‵ (fdies slice′ l₂) ∷ ‵ (fat fullShare slice l₁ 0 s) ∷ ‵ (fdies slice l₁) ∷ ‵ (froom tyUnit l₀ 0) ∷ ‵ (fdies tyUnit l₀) ∷ []
 
         -- a turn's postcondition: it ends nearer to many, or the loop is left and the rest of the body runs
-        abbrev Turned : Upto → Out → SProp 𝓤
-        Turned i = afterTurn 𝓤 H (Below 𝓤 H A Nearer At i) (afterBlock 𝓤 H (afterSeq 𝓤 H (Wp 𝓤 H C Λ En mir′.t-5 (atReturn 𝓤 H En Post)) (atReturn 𝓤 H En Post)))
+        abbrev Turned : Upto many → Out → SProp 𝓤
+        Turned i = afterTurn 𝓤 H (Below 𝓤 H A (Nearer many) At i) (afterBlock 𝓤 H (afterSeq 𝓤 H (Wp 𝓤 H C Λ En mir′.t-5 (atReturn 𝓤 H En Post)) (atReturn 𝓤 H En Post)))
 
-        turns : (i : Upto) → Sq W (At i) (runs C Λ En mir′.turn-1 (anyQ (Turned i)))
+        turns : (i : Upto many) → Sq W (At i) (runs C Λ En mir′.turn-1 (anyQ (Turned i)))
         unfolding afterTurn
         turns i =
             assigns ! (bin ! (load ! (from ! (stop !)) (look ! 22 refl)) (load ! (from ! (stop !)) (look ! 24 refl)) tt) (from ! (stop !)) (init ! 18 refl (tt, tt)) $
@@ -258,7 +246,7 @@ module _ {M : Type 1} (𝓤 : URA M) (H : Heap 𝓤) (A : Atoms 𝓤) (W : Given
             rewrite ! 0 (λ (l : List PointRecord). ‵ (row T.the-row fullShare l b o)) (stepped less r e) refl $ move ! (1 ∷ 2 ∷ 0 ∷ []) $
             assigns-last ! (bin ! (load ! (from ! (stop !)) (look ! 22 refl)) (lit ! tt) (record { fits = fits (next less) })) (from ! (stop !)) (store ! 22 refl (tt, record { fits = fits (next less) })) $
             forget ! 6 refl $ forget ! 8 refl $ forget ! 10 refl $ forget ! 12 refl $ forget ! 14 refl $ forget ! 16 refl $ forget ! 18 refl $
-            again ! Nearer At i (next less) (add-one-dec many (i .0) (ltb→lt (i .0) many less))))))))
+            again ! (Nearer many) At i (next less) (add-one-dec many (i .0) (ltb→lt (i .0) many less))))))))
             (λ over. jumps ! $ exec ! C Λ En mir′.t-5 (atRet En Post) $
             move ! (2 ∷ 3 ∷ 4 ∷ 5 ∷ []) $ closes-slice ! tt T.the-row ys (cur (i .0)) (first-length f (i .0) ys) b o $
             -- [obs; the borrow; the token; what bytes own; their token; the locals, _k at 5 + 2 · (14 − k)]
@@ -267,10 +255,10 @@ module _ {M : Type 1} (𝓤 : URA M) (H : Heap 𝓤) (A : Atoms 𝓤) (W : Given
             move ! (33 ∷ 34 ∷ []) $ free1 ! $ move ! (31 ∷ 32 ∷ []) $ free1 ! $ move ! (29 ∷ 30 ∷ []) $ free1 ! $ move ! (27 ∷ 28 ∷ []) $ free1 ! $ move ! (25 ∷ 26 ∷ []) $ free1 ! $ move ! (23 ∷ 24 ∷ []) $ free1 ! $ move ! (21 ∷ 22 ∷ []) $ free1 ! $ move ! (19 ∷ 20 ∷ []) $ free1 ! $ move ! (17 ∷ 18 ∷ []) $ free1 ! $ move ! (15 ∷ 16 ∷ []) $ free1 ! $ move ! (13 ∷ 14 ∷ []) $ free1 ! $ move ! (11 ∷ 12 ∷ []) $ free1 ! $ move ! (9 ∷ 10 ∷ []) $ free1 ! $ move ! (7 ∷ 8 ∷ []) $ free1 ! $ move ! (5 ∷ 6 ∷ []) $ free1 ! $ free0 ! $
             by ! (exits (cur (i .0)) (first-length f (i .0) ys) (ap cur (le-antisymm (i .1) (nltb→le (i .0) many over)))))
           where
-            elem : Upto → PointRecord
+            elem : Upto many → PointRecord
             elem j = getD (cur (j .0)) (j .0) noRecord
 
-            fits : (j : Upto) → j .0 < 2 ^ 64
+            fits : (j : Upto many) → j .0 < 2 ^ 64
             fits j = lt-of-le-of-lt (j .1) many-fits
 
             within : T (ltb (i .0) many) → i .0 < n
@@ -280,7 +268,7 @@ module _ {M : Type 1} (𝓤 : URA M) (H : Heap 𝓤) (A : Atoms 𝓤) (W : Given
             fine : T (ltb (i .0) many) → ChangesAt way ns c (i .0) (getD (cur (i .0)) (i .0) noRecord)
             fine less = subst (ChangesAt way ns c (i .0)) (sym (first-at f (i .0) ys noRecord)) (asked .each (i .0) (ltb→lt (i .0) many less))
 
-            next : T (ltb (i .0) many) → Upto
+            next : T (ltb (i .0) many) → Upto many
             next less = (i .0 + 1, add-one-le (ltb→lt (i .0) many less))
 
             at-byte : T (ltb (i .0) many) → i .0 * 4 < 2 ^ 64
@@ -293,7 +281,7 @@ module _ {M : Type 1} (𝓤 : URA M) (H : Heap 𝓤) (A : Atoms 𝓤) (W : Given
             stepped less r e = ap (set (cur (i .0)) (i .0)) (e ∙ ap (f (i .0)) (first-at f (i .0) ys noRecord)) ∙ first-next f (i .0) ys noRecord (within less)
 
         looped : Sq W (At (0, zero-le)) (runs C Λ En mir′.t-4 (atRet En Post))
-        looped = first ! $ blocks ! $ loops ! 𝓣 Nearer Nearer-wf At turns (0, zero-le)
+        looped = first ! $ blocks ! $ loops ! 𝓣 (Nearer many) (nearer-wf many) At turns (0, zero-le)
 
       walk : ent 𝓤 (onEntry 𝓤 H A update′.signature (κ, (κ′, tt)) (q, (q′, tt)) a vals) (WpFn 𝓤 H (𝓣 .C) (𝓣 .Λ) code.function (s ∷ s′ ∷ c-mach ∷ way-mach ∷ []) Post)
       walk =
