@@ -43,7 +43,7 @@ extern "C" {
 #endif
 
 /* The version of this header and of the library, as in CHANGELOG.md. */
-#define GLOSPRUMA_VERSION "0.6.0"
+#define GLOSPRUMA_VERSION "0.7.0"
 
 /* The largest number of variables, of points of a table, of variables of a listing, and of variables for which free points are used by the largest
  * space; the bytes of the longest stored table. */
@@ -59,10 +59,10 @@ extern "C" {
 #define GLOSPRUMA_FORM_ROOM 3141
 #define GLOSPRUMA_REPORT_ROOM 24576
 
-/* The length of a record of the listing: degree, least point, basis vectors rising, unused bytes 0. And bytes of room that always suffice for
- * all records of a table: six variables have 2,825 spaces, and a space has at most one prime. */
-#define GLOSPRUMA_RECORD_LENGTH 8
-#define GLOSPRUMA_LISTING_ROOM 22600
+/* The length of a record of the listing: degree, least point, six bytes of basis vectors rising with unused bytes 0, and the number of on points in the
+ * prime, 1 to 64. And bytes of room that always suffice for all records of a table: six variables have 2,825 spaces, and a space has at most one prime. */
+#define GLOSPRUMA_RECORD_LENGTH 9
+#define GLOSPRUMA_LISTING_ROOM 25425
 
 /* The length of a record of a comparison: the point, low byte first, then its mark in the left table and its mark in the right one. And bytes of
  * room that always suffice for all records of two tables: each of 4,096 points may differ. */
@@ -247,7 +247,7 @@ typedef struct {
     uint8_t refusal;
     uint64_t next;   /* the place to go on from */
     uint64_t passed; /* candidates passed: next less place */
-    size_t records;  /* records of 8 bytes written */
+    size_t records;  /* records of 9 bytes written */
 } glospruma_listed;
 
 /* The primes of a table from a place on, at most `allowance` candidates, records into the room; a room that runs short stops the listing.

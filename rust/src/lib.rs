@@ -151,12 +151,13 @@ pub const FORM_ROOM: usize = 3141;
 /// Room that always suffices for a report.
 pub const REPORT_ROOM: usize = 24_576;
 
-/// Bytes of a record of the listing.
-pub const RECORD_LENGTH: usize = 8;
+/// Bytes of a record of the listing: degree, least point, six for basis vectors, and
+/// the number of on points.
+pub const RECORD_LENGTH: usize = 9;
 
 /// Room that always suffices for all records of a table: six variables have 2,825
 /// spaces, and a space has at most one prime.
-pub const LISTING_ROOM: usize = 22_600;
+pub const LISTING_ROOM: usize = 25_425;
 
 /// Bytes of a record of a comparison.
 pub const DIFFERENCE_LENGTH: usize = 4;

@@ -1,4 +1,5 @@
-//! The listing of primes. Follows document 01, section "Primes".
+//! The listing of primes. Follows document 01, section "Primes", and document 02,
+//! No. 6.
 
 use crate::raw;
 use crate::refusal::{check, Refusal};
@@ -24,6 +25,8 @@ pub struct Prime<'a> {
     pub least: u8,
     /// The reduced basis of its directions, as many vectors as the degree.
     pub basis: &'a [u8],
+    /// The number of on points in it, 1 to 64. Free points don't count.
+    pub on_count: u8,
 }
 
 impl<'a> Listing<'a> {
@@ -35,6 +38,7 @@ impl<'a> Listing<'a> {
                 degree: record[0],
                 least: record[1],
                 basis: &record[2..2 + usize::from(record[0])],
+                on_count: record[RECORD_LENGTH - 1],
             })
     }
 }
@@ -59,10 +63,11 @@ impl<'a> Listing<'a> {
 /// let (mut place, mut found) = (0, Vec::new());
 /// while place < CANDIDATES[n - 1] {
 ///     let listing = list_primes(n, &on, &[], place, u64::MAX, &mut room)?;
-///     found.extend(listing.primes().map(|prime| (prime.least, prime.basis.to_vec())));
+///     let primes = listing.primes();
+///     found.extend(primes.map(|prime| (prime.least, prime.basis.to_vec(), prime.on_count)));
 ///     place = listing.next;
 /// }
-/// assert_eq!(found[0], (2, vec![1, 4]));
+/// assert_eq!(found[0], (2, vec![1, 4], 4));
 /// assert_eq!(found[1..].len(), 4);
 /// assert_eq!(list_primes(3, &on, &[], 52, 1, &mut room), Err(Refusal::Place));
 /// # Ok::<(), Refusal>(())

@@ -6,7 +6,7 @@
 
 use glospruma::{
     affine, analyse, complete, form_points, form_rewrite, linear_space, list_primes, raw,
-    read_table, report, write_form, Listing, Refusal, CANDIDATES, LISTING_ROOM,
+    read_table, report, write_form, Listing, Prime, Refusal, CANDIDATES, LISTING_ROOM, RECORD_LENGTH,
 };
 use std::mem::size_of;
 
@@ -112,40 +112,60 @@ fn p5_stored_and_reported() {
     assert_eq!(found.text, P5_REPORT);
 }
 
-/// Degree, least point and basis of each prime.
-fn primes(listing: &Listing) -> Vec<(u8, u8, Vec<u8>)> {
-    let primes = listing.primes();
-    primes
-        .map(|prime| (prime.degree, prime.least, prime.basis.to_vec()))
-        .collect()
+/// Degree, least point, basis and number of on points of each prime.
+fn primes(listing: &Listing) -> Vec<(u8, u8, Vec<u8>, u8)> {
+    let told = |prime: Prime| {
+        let basis = prime.basis.to_vec();
+        (prime.degree, prime.least, basis, prime.on_count)
+    };
+    listing.primes().map(told).collect()
 }
 
 #[test]
 fn p6_five_primes() {
     let on = vec![2, 3, 5, 6, 7];
-    let mut room = vec![9; 41];
+    let mut room = vec![9; 5 * RECORD_LENGTH + 1];
     let listing = list_primes(3, &on, &[], 0, u64::MAX, &mut room).expect("accepted");
     assert_eq!((listing.next, listing.passed), (51, 51));
     let expected = [
-        (2, 2, vec![1, 4]),
-        (1, 2, vec![7]),
-        (1, 3, vec![6]),
-        (1, 5, vec![2]),
-        (1, 5, vec![3]),
+        (2, 2, vec![1, 4], 4),
+        (1, 2, vec![7], 2),
+        (1, 3, vec![6], 2),
+        (1, 5, vec![2], 2),
+        (1, 5, vec![3], 2),
     ];
     assert_eq!(primes(&listing), expected);
-    assert_eq!(room[40], 9);
+    assert_eq!(room[5 * RECORD_LENGTH], 9);
+}
+
+/// Free points are in primes, but aren't counted: one of 64 points is on, or all.
+#[test]
+fn counts_of_one_and_of_all() {
+    let all: Vec<u16> = (0..64).collect();
+    let basis = vec![1, 2, 4, 8, 16, 32];
+    for (on, free, count) in [(&all[5..6], all_but(5), 1), (&all, Vec::new(), 64)] {
+        let mut room = vec![9; RECORD_LENGTH];
+        let listing = list_primes(6, on, &free, 0, u64::MAX, &mut room).expect("accepted");
+        assert_eq!(primes(&listing), [(6, 0, basis.clone(), count)]);
+    }
+}
+
+/// The points of six variables but one.
+fn all_but(point: u16) -> Vec<u16> {
+    (0..64).filter(|&other| other != point).collect()
 }
 
 /// Every length of room that is given again and again lists the same records.
 #[test]
 fn p6_in_pieces() {
     let on = vec![2, 3, 5, 6, 7];
-    let mut whole = vec![9; 40];
+    let mut whole = vec![9; 5 * RECORD_LENGTH];
     let records = list_primes(3, &on, &[], 0, 51, &mut whole)
         .expect("accepted")
         .records;
-    for (length, allowance) in [(8, 51), (8, 1), (15, 7), (23, 2), (40, 3), (64, 50)] {
+    let one = RECORD_LENGTH;
+    let rooms = [one, one, 2 * one - 1, 3 * one - 1, 5 * one, 7 * one + 1];
+    for (length, allowance) in rooms.into_iter().zip([51, 1, 7, 2, 3, 50]) {
         let (mut place, mut joined) = (0, Vec::<u8>::new());
         while place < 51 {
             let mut room = vec![9; length];

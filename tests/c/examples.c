@@ -266,8 +266,8 @@ static void p5_read_and_reported(void) {
 
 static void p6(void) {
     static const uint16_t on_points[] = {2, 3, 5, 6, 7};
-    static const uint8_t records[] = {2, 2, 1, 4, 0, 0, 0, 0, 1, 2, 7, 0, 0, 0, 0, 0, 1, 3, 6, 0,
-                                      0, 0, 0, 0, 1, 5, 2, 0, 0, 0, 0, 0, 1, 5, 3, 0, 0, 0, 0, 0};
+    static const uint8_t records[] = {2, 2, 1, 4, 0, 0, 0, 0, 4, 1, 2, 7, 0, 0, 0, 0, 0, 2, 1, 3, 6, 0, 0,
+                                      0, 0, 0, 2, 1, 5, 2, 0, 0, 0, 0, 0, 2, 1, 5, 3, 0, 0, 0, 0, 0, 2};
     points on = point_list(on_points, LENGTH(on_points)), none = point_list(NULL, 0);
     bytes room = byte_room(sizeof records + 7), joined = byte_room(sizeof records);
     glospruma_listed listed =

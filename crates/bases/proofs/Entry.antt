@@ -1,4 +1,4 @@
--- Laws of one entry: its vectors one after the other, and an entry with a least point as a candidate and as a record.
+-- Laws of one entry: its vectors one after the other, and an entry with a least point as a candidate and as its bytes.
 use mathlib.Core.Path.{_≡_, refl, sym, ap, _∙_, subst}
 use mathlib.Core.Logic.{inl, inr}
 use mathlib.Core.List.{_∷_, _++_}
@@ -12,7 +12,7 @@ use Rattle.gf2.specs.Finite.{Mem}
 use Rattle.gf2.specs.Basis.{reduce}
 use Rattle.gf2.proofs.Logic.{and-l, and-r}
 use Rattle.cubes.specs.Cubes.{IsCandidate}
-use Rattle.cubes.specs.Records.{recordOf}
+use Rattle.cubes.specs.Records.{candidateLength, candidateBytes}
 use Rattle.cubes.proofs.Candidates.{candidate-of}
 use Rattle.bases.specs.Bases.{vectorsOf, maskOf, fitsEntry, takesPoint}
 use Rattle.bases.specs.Entry.{candidateAt, EntryAt}
@@ -55,9 +55,9 @@ module _ {n d p e : ℕ} (k : EntryAt n d p e) where
       candidate-of n p (vectorsOf d e) r (mask-below n (vectorsOf d e) r .0 (subst (λ (x : ℕ). x < 2 ^ n) q b)) (k .point)
       (eqb-true (reduce (vectorsOf d e) p) p (sym (mask-least (vectorsOf d e) r p) ∙ ap (λ (x : ℕ). eqb (bitAnd p x) 0) (sym q) ∙ z))
 
-  pub entry-record : d ∷ p ∷ vectorsOf 6 e ≡ recordOf (candidateAt d p e)
-  unfolding recordOf
-  entry-record =
-      let q : 6 - d ≡ 8 - (2 + d) = omega arith in
+  pub entry-written : d ∷ p ∷ vectorsOf 6 e ≡ candidateBytes (candidateAt d p e)
+  unfolding candidateBytes
+  entry-written =
+      let q : 6 - d ≡ candidateLength - (2 + d) = omega arith in
       ap (λ l. d ∷ p ∷ l) (entry-bytes d e six (k .listed) ∙ ap (λ (z : ℕ). vectorsOf d e ++ replicate z 0) q)
-      ∙ ap (λ (z : ℕ). z ∷ p ∷ vectorsOf d e ++ replicate (8 - (2 + z)) 0) (sym (vectors-length d e))
+      ∙ ap (λ (z : ℕ). z ∷ p ∷ vectorsOf d e ++ replicate (candidateLength - (2 + z)) 0) (sym (vectors-length d e))

@@ -1,6 +1,6 @@
 -- Laws about the definitions in specs/; read in this order. Those that other crates cite: `mask-least`, `mask-below` (Masks), `entries-bases`,
 -- `entry-mask`, `entries-fewer`, `entries-at` (Table), `bounds`, `entry-at`, `entry-mem` (Bounds), `vectors-step`, `vectors-each`,
--- `entry-candidate`, `entry-record` (Entry).
+-- `entry-candidate`, `entry-written` (Entry).
 pub mod Masks
 pub mod Table
 pub mod Bounds

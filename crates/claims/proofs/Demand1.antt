@@ -26,7 +26,7 @@ use Rattle.analysis.specs.Affine.{affineCall, affineAnswer, affineAfter}
 use Rattle.form.specs.Decoding.{formVariables, formProducts, decodeProduct}
 use Rattle.form_calls.specs.Reading.{pointsCall, pointsAnswer, pointsAfter, rewriteCall, rewriteAnswer, rewriteAfter}
 use Rattle.cubes.specs.Lists.{keep}
-use Rattle.cubes.specs.Listing.{listingCall, listingAnswer, listingAfter}
+use Rattle.cubes.specs.Listing.{recordsOf, listingCall, listingAnswerBy, listingAfterBy}
 use Rattle.listing.specs.Answers.{callOf}
 use Rattle.writing.specs.Writing.{writeCall, writeAnswer, writeAfter}
 use Rattle.report.proofs.Answering.{report-refused, report-read}
@@ -132,7 +132,7 @@ remove-lent form list room = record {
 -- ---- the calls
 
 pub demand1 : Demand1
-unfolding holds keep hasPlace tableTests readPlace comparePlace readAnswer readOnAfter readFreeAfter compareAnswer compareAfter linearSpaceAnswer completeAnswer completeAfter analyseAnswer analyseAfter affineAnswer affineAfter listingAnswer listingAfter pointsAnswer pointsAfter rewriteAnswer rewriteAfter writeAnswer writeAfter reportAnswer reportAfter buildAnswer appendAnswer appendAfter removeAnswer removeAfter
+unfolding holds keep hasPlace tableTests readPlace comparePlace readAnswer readOnAfter readFreeAfter compareAnswer compareAfter linearSpaceAnswer completeAnswer completeAfter analyseAnswer analyseAfter affineAnswer affineAfter recordsOf listingAnswerBy listingAfterBy pointsAnswer pointsAfter rewriteAnswer rewriteAfter writeAnswer writeAfter reportAnswer reportAfter buildAnswer appendAnswer appendAfter removeAnswer removeAfter
 demand1 = record {
   read-table = λ bytes on free. decides _ _ _ _ (readCall bytes (length on) (length free)) _ refl refl refl refl refl (λ k. refl) refl (λ k. refl);
   compare = λ left right first room. decides _ _ _ _ (compareCall left right first room) _ refl refl refl refl refl (λ k. refl) refl (λ k. refl);

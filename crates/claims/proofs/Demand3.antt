@@ -6,13 +6,13 @@ use mathlib.Core.List.{List, [], _∷_, _++_, flatMap, append-assoc, append-nil}
 use Prim.Native.Nat.{ℕ, _+_, _≤_, _<_, zero-le}
 use native.Mathlib.Nat.{eq-or-lt-of-le}
 use native.Mathlib.Omega.{arith}
-use lib.ListN.{length, take, drop, getD, length-append, length-drop}
+use lib.ListN.{length, take, length-append, length-drop}
 use lib.Seq.{take-all}
 use lib.Dec.{eqb, leb, ltb}
 use borrow.Author.Tests.{eq-eqb, ne-eqb, eqb-true, ltb-true, leb-true, le-ltb}
-use Rattle.gf2.specs.Finite.{Mem, all, Ordered}
+use Rattle.gf2.specs.Finite.{Mem, holds, Ordered}
 use Rattle.gf2.proofs.Logic.{clash, and-l, and-r}
-use Rattle.gf2.proofs.Finite.{all-at, append-mem}
+use Rattle.gf2.proofs.Finite.{append-mem}
 use Rattle.table.specs.Refusal.{Test, test, NoneApplies, sizeFault, placeFault}
 use Rattle.table.specs.Table.{tableTests, tableFault, Accepted}
 use Rattle.table.proofs.Refusal.{no-fault}
@@ -21,21 +21,21 @@ use Rattle.table.proofs.Decide.{decide-number}
 use Rattle.cubes.specs.Lists.{keep}
 use Rattle.cubes.specs.Cubes.{Candidate, Only}
 use Rattle.cubes.specs.Candidates.{Before, candidates, candidateCount}
-use Rattle.cubes.specs.Records.{maxListed, recordLength, recordOf, recordsOf}
-use Rattle.cubes.specs.Listing.{Table, Call, primeOf, listingTests, listingFault, accepted, listing, Answer, listingAccepted, listingRefused, listingAnswer}
+use Rattle.cubes.specs.Records.{maxListed, recordLength}
+use Rattle.cubes.specs.Listing.{Table, Call, primeOf, recordIn, recordsOf, listingTests, listingFault, accepted, aheadOf, listing, Answer, listingAccepted, listingRefused, listingAnswerBy, listingAnswer}
 use Rattle.cubes.specs.Calls.{handedOver, Obeyed, Refused, primesBehind, endOf}
 use Rattle.cubes.proofs.Lists.{keep-mem, mem-keep, take-mem, ordered-keep, ordered-take, ordered-with}
 use Rattle.cubes.proofs.Candidates.{before-not, candidates-ordered}
 use Rattle.cubes.proofs.Listing.{records-append, record-one, rule-moves, accepted-is, accepted-place}
 use Rattle.cubes.proofs.Calls.{call-obeyed, call-refused, primes-add, candidate-prime, every-prime}
-use Rattle.counts.proofs.Counts.{count-at}
+use Rattle.counts.proofs.Counts.{count-most}
 use Rattle.claims.specs.Demand3.{wasAccepted, goesOn, Continues, advance, reached, sumOf, able, AtEnd, Demand3}
 
 -- ---- one call
 
 -- The number that a call returns is the refusal by its tests.
 refusal-is : (c : Call) → listingAnswer c .refusal ≡ listingFault c
-unfolding listingAnswer listingFault
+unfolding listingAnswerBy listingFault
 refusal-is c = decide-number (λ (a : Answer). a .refusal) (listingTests c) (listingAccepted (c .place) (listing c)) listingRefused refl (λ k. refl)
 
 -- A call that returned no refusal was accepted by the rule; a call that did was not.
@@ -107,7 +107,7 @@ able-moves c a h =
 record Step (t : Table) (p : ℕ) (c : Call) (q : ℕ) : Type 0 where
   low : p ≤ q
   high : q ≤ endOf t
-  handed : recordsOf (primesBehind t p) ++ handedOver c ≡ recordsOf (primesBehind t q)
+  handed : recordsOf t (primesBehind t p) ++ handedOver c ≡ recordsOf t (primesBehind t q)
   number : length (primesBehind t p) + listingAnswer c .records ≡ length (primesBehind t q)
   passed : p + listingAnswer c .passed ≡ q
   moves : able c ≡ true → p < endOf t → p < q
@@ -116,8 +116,8 @@ taken : (c : Call) → wasAccepted c ≡ true → Step (c .table) (c .place) c (
 taken c e = record {
   low = omega arith;
   high = omega (arith, o .rule .along, accepted-place c (by-rule c e), length-drop (c .place) (candidates (c .table .variables)));
-  handed = ap (λ x. recordsOf (primesBehind (c .table) (c .place)) ++ x) (o .handed)
-      ∙ sym (records-append (primesBehind (c .table) (c .place)) (listing c .primes)) ∙ ap recordsOf (sym grown);
+  handed = ap (λ x. recordsOf (c .table) (primesBehind (c .table) (c .place)) ++ x) (o .handed)
+      ∙ sym (records-append (c .table) (primesBehind (c .table) (c .place)) (listing c .primes)) ∙ ap (recordsOf (c .table)) (sym grown);
   number = ap (λ (z : ℕ). length (primesBehind (c .table) (c .place)) + z) (o .records)
       ∙ sym (length-append (primesBehind (c .table) (c .place)) (listing c .primes)) ∙ ap length (sym grown);
   passed = ap (λ (z : ℕ). c .place + z) (o .passed);
@@ -141,7 +141,7 @@ step t p c h u = go (wasAccepted c) refl
         let r = gives-nothing c e in record {
           low = omega arith;
           high = h;
-          handed = ap (λ x. recordsOf (primesBehind t p) ++ x) (r .handed) ∙ append-nil (recordsOf (primesBehind t p));
+          handed = ap (λ x. recordsOf t (primesBehind t p) ++ x) (r .handed) ∙ append-nil (recordsOf t (primesBehind t p));
           number = omega (arith, ap (λ (a : Answer). a .records) (r .numbers));
           passed = omega (arith, ap (λ (a : Answer). a .passed) (r .numbers));
           moves = λ a l. clash (able-is c a .0) e;
@@ -152,7 +152,7 @@ step t p c h u = go (wasAccepted c) refl
 record Run (t : Table) (p : ℕ) (cs : List Call) (q : ℕ) : Type 0 where
   low : p ≤ q
   high : q ≤ endOf t
-  handed : recordsOf (primesBehind t p) ++ flatMap handedOver cs ≡ recordsOf (primesBehind t q)
+  handed : recordsOf t (primesBehind t p) ++ flatMap handedOver cs ≡ recordsOf t (primesBehind t q)
   number : length (primesBehind t p) + sumOf (λ c. listingAnswer c .records) cs ≡ length (primesBehind t q)
   passed : p + sumOf (λ c. listingAnswer c .passed) cs ≡ q
   moves : (p + length (keep able cs) ≤ q) ⊎ (q ≡ endOf t)
@@ -162,7 +162,7 @@ unfolding reached sumOf flatMap keep
 run t [] p h u = record {
   low = omega arith;
   high = h;
-  handed = append-nil (recordsOf (primesBehind t p));
+  handed = append-nil (recordsOf t (primesBehind t p));
   number = omega arith;
   passed = omega arith;
   moves = inl (omega arith);
@@ -172,7 +172,7 @@ run t (c ∷ cs) p h u =
     let i = run t cs (advance p c) (s .high) (u .1) in record {
       low = omega (arith, s .low, i .low);
       high = i .high;
-      handed = sym (append-assoc (recordsOf (primesBehind t p)) (handedOver c) (flatMap handedOver cs)) ∙ ap (λ x. x ++ flatMap handedOver cs) (s .handed) ∙ i .handed;
+      handed = sym (append-assoc (recordsOf t (primesBehind t p)) (handedOver c) (flatMap handedOver cs)) ∙ ap (λ x. x ++ flatMap handedOver cs) (s .handed) ∙ i .handed;
       number = omega (arith, s .number, i .number);
       passed = omega (arith, s .passed, i .passed);
       moves = moved (able c) refl (advance p c) (reached (advance p c) cs) (s .low) (i .low) (i .high) (s .moves) (i .moves);
@@ -208,14 +208,6 @@ consecutive-table t p (b ∷ cs) u c (inr m) a = consecutive-table t (advance p 
 
 -- ---- the end
 
--- There are at most as many candidates as six variables have.
-most-candidates : (n : ℕ) → n ≤ maxListed → candidateCount n ≤ 26387
-unfolding all
-most-candidates n h =
-    subst (λ (k : ℕ). k ≤ 26387) (sym (count-at n h))
-    (leb-true (getD (1 ∷ 3 ∷ 11 ∷ 51 ∷ 307 ∷ 2451 ∷ 26387 ∷ []) n 0) 26387
-    (all-at (λ k. leb (getD (1 ∷ 3 ∷ 11 ∷ 51 ∷ 307 ∷ 2451 ∷ 26387 ∷ []) k 0) 26387) 7 refl n (omega arith)))
-
 module _ (t : Table) (a : Accepted (t .variables) (t .on) (t .free)) (six : t .variables ≤ maxListed) where
   -- No test of a call at the end applies.
   end-accepted : (c : Call) → c .table ≡ t → c .place ≡ endOf t → NoneApplies (listingTests c)
@@ -244,7 +236,7 @@ module _ (t : Table) (a : Accepted (t .variables) (t .on) (t .free)) (six : t .v
         refusal = o .refusal;
         passed = o .passed ∙ z;
         next = omega (arith, o .next, o .passed);
-        handed = o .handed ∙ ap recordsOf (o .rule .found ∙ ap (λ (k : ℕ). keep (primeOf (c .table)) (take k (drop (c .place) (candidates (c .table .variables))))) z);
+        handed = o .handed ∙ ap (recordsOf (c .table)) (o .rule .found ∙ ap (λ (k : ℕ). keep (primeOf (c .table)) (take k (aheadOf c))) z);
       }
 
 -- ---- demand 3
@@ -257,7 +249,7 @@ demand3 t a six calls g =
       accepts = λ c m. (λ e. accepted-is c .0 (by-rule c (was c e)), λ n. refusal-is c ∙ eqb-true (listingFault c) 0 (accepted-is c .1 n));
       obeyed = λ c m e. obeys c (was c e);
       refused = λ c m n. gives-nothing c (was-not c n);
-      most = most-candidates (t .variables) six;
+      most = count-most (t .variables) six;
       at-end = at-the-end t a six;
       within = i .high;
       last = λ bs c cs e k h.
@@ -270,8 +262,8 @@ demand3 t a six calls g =
         λ h. mem-keep (primeOf t) (take (reached 0 calls) cs) c (h .0) (candidate-prime t c (take-mem (reached 0 calls) cs c (h .0)) .1 (h .1)),
       );
       order = behind;
-      once = ordered-with Before (λ a b. recordOf a ≢ recordOf b) (primesBehind t (reached 0 calls))
-          (λ a b x y h e. let z = subst (Before a) (sym (record-one a b e)) h in before-not a a z z) behind;
+      once = ordered-with Before (λ a b. recordIn t a ≢ recordIn t b) (primesBehind t (reached 0 calls))
+          (λ a b x y h e. let z = subst (Before a) (sym (record-one (t .variables) (holds (t .on)) a b e)) h in before-not a a z z) behind;
       whole = λ e C p. subst (λ l. Only (t .variables) C (keep (primeOf t) l)) (sym (take-all (reached 0 calls) cs (omega arith))) (every-prime t C p);
       forward = λ c m a l. able-moves c a (subst (λ (s : Table). c .place < endOf s) (sym (consecutive-table t 0 calls u c m (able-is c a .0))) l);
       enough = λ h. elim (i .moves) [ inl z ↦ omega (arith, i .high) | inr z ↦ z ];

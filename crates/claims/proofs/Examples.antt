@@ -1,5 +1,5 @@
--- Document 01, "Table of proved examples": P1 to P9, and three tables more for document 02, No. 4, in one table under one statement, computed from the
--- answers and rooms that the contracts of the public calls name; and a run of calls for No. 5.
+-- Document 01, "Table of proved examples": P1 to P9, the primes of P8's table for document 02, No. 6, and three tables more for No. 4, in one table under
+-- one statement, computed from the answers and rooms that the contracts of the public calls name; and a run of calls for No. 5.
 use mathlib.Core.Path.{_≡_, refl}
 use mathlib.Core.List.{List, [], _∷_, map, flatMap}
 use Prim.Native.Nat.{ℕ}
@@ -29,8 +29,8 @@ use Rattle.cubes.specs.Lists.{keep}
 use Rattle.cubes.specs.Cubes.{spans, pointsOf}
 use Rattle.cubes.specs.Candidates.{bases, candidatesOf, candidatesFrom, candidates}
 use Rattle.cubes.specs.Primes.{everyPoint, somePoint, cannotGrow, isPrime}
-use Rattle.cubes.specs.Records.{recordOf, recordsOf}
-use Rattle.cubes.specs.Listing.{listingFault, passage, listing, listingAnswer, listingAfter}
+use Rattle.cubes.specs.Records.{candidateBytes, onCount, recordOf}
+use Rattle.cubes.specs.Listing.{listingFault, passage, listingBy, listingAnswer, listingAnswerBy, listingAfterBy}
 use Rattle.cubes.specs.Calls.{handedOver}
 use Rattle.listing.specs.Answers.{callOf}
 use Rattle.cover.specs.CanonicalProduct.{placeFactor, canonicalProduct}
@@ -102,10 +102,11 @@ five = 4 ∷ 5 ∷ 6 ∷ 7 ∷ 9 ∷ 10 ∷ 12 ∷ 13 ∷ 14 ∷ 15 ∷ []
 pub fiveForm : List ℕ
 fiveForm = 0x4E ∷ 0x04 ∷ 0x50 ∷ 0x58 ∷ 0x01 ∷ 0x04 ∷ 0x00 ∷ 0x50 ∷ 0x58 ∷ 0x01 ∷ 0x0C ∷ 0x00 ∷ 0x58 ∷ 0x00 ∷ 0x0B ∷ 0x00 ∷ 0x45 ∷ 0x02 ∷ 0x00 ∷ []
 
--- The records of P6: degree, least point and the basis vectors, unused bytes 0.
+-- The records of P6: degree, least point and the basis vectors, unused bytes 0; then the number of on points (document 02, No. 6).
 pub sixRecords : List ℕ
 sixRecords =
-    2 ∷ 2 ∷ 1 ∷ 4 ∷ 0 ∷ 0 ∷ 0 ∷ 0 ∷ (1 ∷ 2 ∷ 7 ∷ 0 ∷ 0 ∷ 0 ∷ 0 ∷ 0 ∷ (1 ∷ 3 ∷ 6 ∷ 0 ∷ 0 ∷ 0 ∷ 0 ∷ 0 ∷ (1 ∷ 5 ∷ 2 ∷ 0 ∷ 0 ∷ 0 ∷ 0 ∷ 0 ∷ (1 ∷ 5 ∷ 3 ∷ 0 ∷ 0 ∷ 0 ∷ 0 ∷ 0 ∷ []))))
+    2 ∷ 2 ∷ 1 ∷ 4 ∷ 0 ∷ 0 ∷ 0 ∷ 0 ∷ 4 ∷ (1 ∷ 2 ∷ 7 ∷ 0 ∷ 0 ∷ 0 ∷ 0 ∷ 0 ∷ 2 ∷ (1 ∷ 3 ∷ 6 ∷ 0 ∷ 0 ∷ 0 ∷ 0 ∷ 0 ∷ 2
+    ∷ (1 ∷ 5 ∷ 2 ∷ 0 ∷ 0 ∷ 0 ∷ 0 ∷ 0 ∷ 2 ∷ (1 ∷ 5 ∷ 3 ∷ 0 ∷ 0 ∷ 0 ∷ 0 ∷ 0 ∷ 2 ∷ []))))
 
 -- P1 to P9, in order, P8 with document 02's answers; then the table of source 003, Examples 3 and 4; one with closure set 0 1 2 4 6, in which a space
 -- that grows by its least vector ends with one dimension; and one with 0 1 2 4 6 7, where bases compared from their last vector would give 2 4.
@@ -117,7 +118,7 @@ examples =
     ∷ example (analyse 1 (0 ∷ 1 ∷ []) []) (analysis 0 1 (1 ∷ []) (1 ∷ []) [] (0 ∷ []))
     ∷ example (write-form 1 (0 ∷ 1 ∷ []) []) (form 0 1 (0x4E ∷ 0x01 ∷ 0x50 ∷ 0x45 ∷ 0x01 ∷ 0x00 ∷ []))
     ∷ example (analyse 3 (1 ∷ 2 ∷ 4 ∷ 7 ∷ []) []) (analysis 0 2 (3 ∷ 5 ∷ []) (1 ∷ 2 ∷ []) (7 ∷ []) (1 ∷ []))
-    ∷ example (list-primes 3 (1 ∷ 2 ∷ 4 ∷ 7 ∷ []) [] 0) (records 0 51 51 1 (2 ∷ 1 ∷ 3 ∷ 5 ∷ 0 ∷ 0 ∷ 0 ∷ 0 ∷ []))
+    ∷ example (list-primes 3 (1 ∷ 2 ∷ 4 ∷ 7 ∷ []) [] 0) (records 0 51 51 1 (2 ∷ 1 ∷ 3 ∷ 5 ∷ 0 ∷ 0 ∷ 0 ∷ 0 ∷ 4 ∷ []))
     ∷ example (analyse 4 five []) (analysis 0 1 (3 ∷ []) (3 ∷ []) (8 ∷ 4 ∷ 3 ∷ []) (2 ∷ 3 ∷ 5 ∷ 6 ∷ 7 ∷ []))
     ∷ example (write-form 4 five []) (form 0 2 fiveForm)
     ∷ example (list-primes 3 (2 ∷ 3 ∷ 5 ∷ 6 ∷ 7 ∷ []) [] 0) (records 0 51 51 5 sixRecords)
@@ -125,6 +126,7 @@ examples =
     ∷ example (complete 2 (0 ∷ []) (1 ∷ 2 ∷ [])) (completion 0 1 0 0 (0 ∷ 1 ∷ []))
     ∷ example (analyse 2 (0 ∷ []) (1 ∷ 2 ∷ [])) (analysis 0 1 (1 ∷ []) (2 ∷ []) (2 ∷ []) (0 ∷ []))
     ∷ example (write-form 2 (0 ∷ []) (1 ∷ 2 ∷ [])) (form 0 1 (0x4E ∷ 0x02 ∷ 0x50 ∷ 0x58 ∷ 0x00 ∷ 0x02 ∷ 0x00 ∷ 0x45 ∷ 0x01 ∷ 0x00 ∷ []))
+    ∷ example (list-primes 2 (0 ∷ []) (1 ∷ 2 ∷ []) 0) (records 0 11 11 2 (1 ∷ 0 ∷ 1 ∷ 0 ∷ 0 ∷ 0 ∷ 0 ∷ 0 ∷ 1 ∷ (1 ∷ 0 ∷ 2 ∷ 0 ∷ 0 ∷ 0 ∷ 0 ∷ 0 ∷ 1 ∷ [])))
     ∷ example (list-primes 2 [] (0 ∷ []) 0) (records 0 11 11 0 [])
     ∷ example (list-primes 2 [] (0 ∷ []) 11) (records 0 11 0 0 [])
     ∷ example (list-primes 2 [] (0 ∷ []) 12) (records 9 0 0 0 [])
@@ -135,7 +137,7 @@ examples =
 
 -- Each reply is the one expected.
 pub computed : map (λ e. reply (e .asked)) examples ≡ map (λ e. e .expected) examples
-unfolding examples example five fiveForm sixRecords reply completeAnswer completeAfter analyseAnswer analyseAfter affineAnswer affineAfter handedOver writeAnswer writeAfter formBytes formSizeFault completedPoints holds all select bit halvings lead oddIn odd clear reduce place join insert inserts reduces irreducible reducedBasis isLead placesAt firstFault tableTests badCount outside notAbove unordered shared spacesOf spacesFrom largest closes closureSet largestSpace spread closed linearSpace degree allOn simplyCompleted completed equation equations number project clean restriction directions leastPoint projection encodeFactors encodeProducts encodeForm flatMap keep spans pointsOf bases candidatesOf candidatesFrom candidates everyPoint somePoint cannotGrow isPrime recordOf recordsOf listingFault passage listing listingAnswer listingAfter placeFactor canonicalProduct substituteMask substituteFactor substituteProduct primesOf covered firstHolding takenFor takenThrough chosen writtenProduct formOf writtenForm
+unfolding examples example five fiveForm sixRecords reply completeAnswer completeAfter analyseAnswer analyseAfter affineAnswer affineAfter handedOver writeAnswer writeAfter formBytes formSizeFault completedPoints holds all select bit halvings lead oddIn odd clear reduce place join insert inserts reduces irreducible reducedBasis isLead placesAt firstFault tableTests badCount outside notAbove unordered shared spacesOf spacesFrom largest closes closureSet largestSpace spread closed linearSpace degree allOn simplyCompleted completed equation equations number project clean restriction directions leastPoint projection encodeFactors encodeProducts encodeForm flatMap keep spans pointsOf bases candidatesOf candidatesFrom candidates everyPoint somePoint cannotGrow isPrime candidateBytes onCount recordOf listingFault passage listingBy listingAnswerBy listingAfterBy placeFactor canonicalProduct substituteMask substituteFactor substituteProduct primesOf covered firstHolding takenFor takenThrough chosen writtenProduct formOf writtenForm
 computed = refl
 
 -- ---- an index kept by calls (document 02, No. 5)

@@ -10,5 +10,6 @@ pub mod FaultCalls
 pub mod FreePoints
 pub mod Bits
 pub mod Indexed
+pub mod PrimeCounts
 pub mod Examples
 pub mod Rooms

@@ -42,8 +42,8 @@ use Rattle.index.proofs.Accepting.{appended-sound, appended-again, removed-soun
 use Rattle.cubes.specs.Lists.{keep}
 use Rattle.cubes.specs.Cubes.{Candidate, candidate, degree, IsCandidate}
 use Rattle.cubes.specs.Candidates.{Before, bases, vectors, candidates}
-use Rattle.cubes.specs.Records.{maxListed, recordsOf}
-use Rattle.cubes.specs.Listing.{Table, Call, primeOf, accepted, Full, listing, listingAnswer}
+use Rattle.cubes.specs.Records.{maxListed, recordLength}
+use Rattle.cubes.specs.Listing.{Table, Call, primeOf, recordsOf, accepted, aheadOf, Full, listing, listingAnswer}
 use Rattle.cubes.specs.Calls.{primesBehind, endOf}
 use Rattle.cubes.proofs.Lists.{mem-flatMap, keep-mem, take-mem, ordered-take, ordered-keep, ordered-with}
 use Rattle.cubes.proofs.Cubes.{vectors-below, degree-most}
@@ -190,20 +190,20 @@ module _ (t : Table) (small : t .variables ≤ maxListed) (place : ℕ) where
   prime-number : length (primesBehind t place) ≤ 2825
   prime-number = omega (arith, space-count, no-more (λ c. c .vectors) (primesBehind t place) spaces primes-apart prime-space)
 
-  records-room : length (recordsOf (primesBehind t place)) ≤ 22600
+  records-room : length (recordsOf t (primesBehind t place)) ≤ 25425
   records-room =
-      omega (arith, prime-number, records-length (primesBehind t place) (λ c m. omega (arith, degree-most (t .variables) c (prime-of c m .0))))
+      omega (arith, prime-number, records-length t (primesBehind t place) (λ c m. omega (arith, degree-most (t .variables) c (prime-of c m .0))))
 
 -- A call at place 0 with an allowance for every candidate and that room stops at the end: before a prime there would be too many of them.
-module _ (c : Call) (a : accepted c ≡ true) (first : c .place ≡ 0) (paid : endOf (c .table) ≤ c .allowance) (enough : 22600 ≤ length (c .room)) where
-  ahead : drop (c .place) (candidates (c .table .variables)) ≡ candidates (c .table .variables)
+module _ (c : Call) (a : accepted c ≡ true) (first : c .place ≡ 0) (paid : endOf (c .table) ≤ c .allowance) (enough : 25425 ≤ length (c .room)) where
+  ahead : aheadOf c ≡ candidates (c .table .variables)
   ahead = ap (λ (k : ℕ). drop k (candidates (c .table .variables))) first
 
   found : listing c .primes ≡ primesBehind (c .table) (listing c .passed)
   unfolding primesBehind
   found = call-obeyed c a .rule .found ∙ ap (λ l. keep (primeOf (c .table)) (take (listing c .passed) l)) ahead
 
-  never-full : Full (primeOf (c .table)) (drop (listing c .passed) (drop (c .place) (candidates (c .table .variables)))) (listing c .primes) (length (c .room)) → ⊥
+  never-full : Full recordLength (primeOf (c .table)) (drop (listing c .passed) (aheadOf c)) (listing c .primes) (length (c .room)) → ⊥
   unfolding keep
   never-full s =
       let next = ap (drop (listing c .passed)) (sym ahead) ∙ s .first in

@@ -34,9 +34,8 @@ use Rattle.form_calls.specs.declared.FormPoints.{FormPoints}
 use Rattle.form_calls.specs.declared.FormRewrite.{FormRewrite}
 use Rattle.form_calls.specs.Reading.{pointsRead, pointsCall, pointsAnswer, pointsAfter, rewritten, rewriteCall, rewriteAnswer, rewriteAfter}
 use Rattle.cubes.specs.Lists.{keep}
-use Rattle.cubes.specs.Records.{recordsOf}
-use Rattle.cubes.specs.Listing.{listing, Answer, listingCall, listingAnswer, listingAfter}
-use Rattle.listing.specs.Answers.{callOf}
+use Rattle.cubes.specs.Listing.{recordsOf, listing, Answer, listingCall, listingAnswer, listingAfter}
+use Rattle.listing.specs.Answers.{tableOf, callOf}
 use Rattle.writing.specs.declared.FormWritten.{FormWritten}
 use Rattle.writing.specs.Writing.{formBytes, writeCall, writeAnswer, writeAfter}
 use Rattle.lines.specs.Lines.{faultLine}
@@ -208,7 +207,7 @@ pub record Demand1 : Type 0 where
   pub list-primes : (n : ℕ) (on free : List ℕ) (place allowance : ℕ) (room : List ℕ)
       → Decides refusalOrder (1 ∷ 2 ∷ 3 ∷ 4 ∷ 5 ∷ 9 ∷ []) (λ r. unplaced (r .refusal)) listingOthers
       (listingCall (callOf n on free place allowance room)) (listingAnswer (callOf n on free place allowance room))
-      (lent (recordsOf (listing (callOf n on free place allowance room) .primes)) room (listingAfter (callOf n on free place allowance room)) ∷ [])
+      (lent (recordsOf (tableOf n on free) (listing (callOf n on free place allowance room) .primes)) room (listingAfter (callOf n on free place allowance room)) ∷ [])
   pub write-form : (n : ℕ) (on free room : List ℕ)
       → Decides refusalOrder (1 ∷ 2 ∷ 3 ∷ 4 ∷ 5 ∷ 7 ∷ []) (λ r. unplaced (r .refusal)) writeOthers
       (writeCall n on free room) (writeAnswer n on free room)

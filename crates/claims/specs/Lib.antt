@@ -8,4 +8,5 @@ pub mod Faults
 pub mod FreePoints
 pub mod Bits
 pub mod Indexed
+pub mod PrimeCounts
 pub mod Rooms

@@ -15,8 +15,8 @@ use Rattle.form.specs.Form.{maxProducts}
 use Rattle.form.specs.Decoding.{formVariables, formProducts, decodeForm}
 use Rattle.form.specs.Refusal.{formFault, productFault}
 use Rattle.form_calls.specs.Reading.{pointsRead, rewritten}
-use Rattle.cubes.specs.Records.{maxListed, recordsOf}
-use Rattle.cubes.specs.Listing.{Table, Call, accepted, listingAnswer}
+use Rattle.cubes.specs.Records.{maxListed}
+use Rattle.cubes.specs.Listing.{Table, Call, recordsOf, accepted, listingAnswer}
 use Rattle.cubes.specs.Calls.{primesBehind, endOf}
 use Rattle.cover.specs.WrittenForm.{formSizeFault}
 use Rattle.writing.specs.Writing.{formBytes}
@@ -50,8 +50,8 @@ pub record RoomsSuffice : Type 0 where
   pub report : (bytes : List ℕ) → length (reportText bytes) ≤ 24576
   -- LISTING_ROOM: the records of all primes of a table of at most six variables; so one call from place 0 with an allowance for every candidate
   -- reaches the end.
-  pub listing : (t : Table) → t .variables ≤ maxListed → length (recordsOf (primesBehind t (endOf t))) ≤ 22600
-  pub listing-ends : (c : Call) → accepted c ≡ true → c .place ≡ 0 → endOf (c .table) ≤ c .allowance → 22600 ≤ length (c .room) → listingAnswer c .next ≡ endOf (c .table)
+  pub listing : (t : Table) → t .variables ≤ maxListed → length (recordsOf t (primesBehind t (endOf t))) ≤ 25425
+  pub listing-ends : (c : Call) → accepted c ≡ true → c .place ≡ 0 → endOf (c .table) ≤ c .allowance → 25425 ≤ length (c .room) → listingAnswer c .next ≡ endOf (c .table)
   -- COMPARISON_ROOM: a record for each point of the most variables; so one call from any first point on is done.
   pub compare-ends : (left right : List ℕ) (first : ℕ) (room : List ℕ) → compareAnswer left right first room .refusal ≡ 0 → 16384 ≤ length room
       → compareAnswer left right first room .next ≡ tableSize left

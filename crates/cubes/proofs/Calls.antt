@@ -1,71 +1,62 @@
 -- Laws of specs.Calls: what one call hands over, and the primes behind a place. Read next: Examples.
-use mathlib.Core.Path.{_≡_, sym, ap, ap₂, _∙_, subst}
+use mathlib.Core.Path.{_≡_, sym, ap, ap₂, _∙_}
 use mathlib.Core.Bool.{Bool, true, false}
 use mathlib.Core.Logic.{_↔_}
 use mathlib.Core.List.{List, _++_}
-use Prim.Native.Nat.{ℕ, _+_, _*_, _≤_}
-use native.Mathlib.Omega.{arith}
+use Prim.Native.Nat.{ℕ, _+_, _*_}
 use lib.ListN.{length, take, drop}
 use lib.Seq.{take-add, take-at}
 use borrow.Author.Tests.{eqb-false}
 use Rattle.gf2.specs.Finite.{Mem, holds}
-use Rattle.gf2.proofs.Finite.{drop-mem}
 use Rattle.cubes.specs.Lists.{keep}
-use Rattle.cubes.specs.Cubes.{Candidate, degree, pointsOf, Only}
+use Rattle.cubes.specs.Cubes.{Candidate, pointsOf, Only}
 use Rattle.cubes.specs.Candidates.{candidates}
-use Rattle.cubes.specs.Records.{maxListed, recordLength, recordsOf}
-use Rattle.cubes.specs.Listing.{Table, Call, primeOf, listingFault, accepted, ListingRule, listing, Answer, listingAccepted, listingAnswer, listingAfter}
+use Rattle.cubes.specs.Records.{recordLength}
+use Rattle.cubes.specs.Listing.{Table, Call, primeOf, recordIn, recordsOf, listingFault, accepted, listing, Answer, listingAccepted, listingAnswer, listingAfter}
 use Rattle.cubes.specs.Calls.{handedOver, Obeyed, Refused, primesBehind, PrimeOf}
-use Rattle.cubes.proofs.Lists.{keep-mem, mem-keep, take-mem, keep-append}
-use Rattle.cubes.proofs.Cubes.{degree-most}
+use Rattle.cubes.proofs.Lists.{keep-mem, mem-keep, keep-append}
 use Rattle.cubes.proofs.Candidates.{candidate-is, candidate-only}
 use Rattle.cubes.proofs.Primes.{prime-is, prime-same}
-use Rattle.cubes.proofs.Listing.{records-length, accepted-small, answer-on, answer-off, room-on, room-off, call-rule}
+use Rattle.cubes.proofs.Listing.{records-length, answer-on, answer-off, room-on, room-off, call-rule, found-small}
 
 -- ---- one call
 
 pub call-obeyed : (c : Call) → accepted c ≡ true → Obeyed c
-unfolding handedOver
+unfolding handedOver recordsOf
 call-obeyed c e = record {
   refusal = ap (λ (a : Answer). a .refusal) a;
-  rule = r;
+  rule = call-rule recordLength c;
   passed = ap (λ (a : Answer). a .passed) a;
   next = ap (λ (a : Answer). a .next) a ∙ ap (λ (a : Answer). c .place + a .passed) (sym a);
   records = number;
   handed = front;
-  room = room-on c e ∙ ap₂ (λ (l : List ℕ) (k : ℕ). l ++ drop k (c .room)) (sym front) (size ∙ ap (λ (k : ℕ). recordLength * k) (sym number));
+  room = after ∙ ap₂ (λ (l : List ℕ) (k : ℕ). l ++ drop k (c .room)) (sym front) (size ∙ ap (λ (k : ℕ). recordLength * k) (sym number));
 }
   where
     a : listingAnswer c ≡ listingAccepted (c .place) (listing c)
-    a = answer-on c e
-
-    r : ListingRule (primeOf (c .table)) (drop (c .place) (candidates (c .table .variables))) (c .allowance) (length (c .room)) (listing c)
-    r = call-rule c
+    a = answer-on recordLength c e
 
     number : listingAnswer c .records ≡ length (listing c .primes)
     number = ap (λ (a : Answer). a .records) a
 
-    small : (d : Candidate) → Mem d (listing c .primes) → degree d ≤ maxListed
-    small d m =
-        let i = keep-mem (primeOf (c .table)) (take (listing c .passed) (drop (c .place) (candidates (c .table .variables)))) d (subst (Mem d) (r .found) m) .0 in
-        let j = drop-mem (c .place) (candidates (c .table .variables)) d (take-mem (listing c .passed) (drop (c .place) (candidates (c .table .variables))) d i) in
-        omega (arith, accepted-small c e, degree-most (c .table .variables) d (candidate-is (c .table .variables) d .0 j))
+    after : listingAfter c ≡ recordsOf (c .table) (listing c .primes) ++ drop (length (recordsOf (c .table) (listing c .primes))) (c .room)
+    after = room-on recordLength c (recordIn (c .table)) e
 
-    size : length (recordsOf (listing c .primes)) ≡ recordLength * length (listing c .primes)
-    size = records-length (listing c .primes) small
+    size : length (recordsOf (c .table) (listing c .primes)) ≡ recordLength * length (listing c .primes)
+    size = records-length (c .table) (listing c .primes) (found-small recordLength c e)
 
-    front : take (recordLength * listingAnswer c .records) (listingAfter c) ≡ recordsOf (listing c .primes)
+    front : take (recordLength * listingAnswer c .records) (listingAfter c) ≡ recordsOf (c .table) (listing c .primes)
     front =
-        ap₂ (λ (k : ℕ) (l : List ℕ). take (recordLength * k) l) number (room-on c e)
-        ∙ take-at (recordsOf (listing c .primes)) (drop (length (recordsOf (listing c .primes))) (c .room)) (recordLength * length (listing c .primes)) size
+        ap₂ (λ (k : ℕ) (l : List ℕ). take (recordLength * k) l) number after
+        ∙ take-at (recordsOf (c .table) (listing c .primes)) (drop (length (recordsOf (c .table) (listing c .primes))) (c .room)) (recordLength * length (listing c .primes)) size
 
 pub call-refused : (c : Call) → accepted c ≡ false → Refused c
 unfolding handedOver
 call-refused c e = record {
   number = eqb-false (listingFault c) 0 e;
-  numbers = answer-off c e;
-  room = room-off c e;
-  handed = ap (λ (a : Answer). take (recordLength * a .records) (listingAfter c)) (answer-off c e);
+  numbers = answer-off recordLength c e;
+  room = room-off recordLength c (recordIn (c .table)) e;
+  handed = ap (λ (a : Answer). take (recordLength * a .records) (listingAfter c)) (answer-off recordLength c e);
 }
 
 -- ---- the primes behind a place

@@ -9,11 +9,11 @@ use Rattle.gf2.specs.Basis.{clear, reduce}
 use Rattle.table.specs.Refusal.{firstFault}
 use Rattle.table.specs.Table.{tableTests, badCount, outside, notAbove, unordered, shared}
 use Rattle.cubes.specs.Lists.{keep}
-use Rattle.cubes.specs.Cubes.{Candidate, candidate, spans}
+use Rattle.cubes.specs.Cubes.{Candidate, candidate, spans, pointsOf}
 use Rattle.cubes.specs.Candidates.{bases, candidatesAt, candidatesOf, candidatesFrom, candidates}
 use Rattle.cubes.specs.Primes.{everyPoint, somePoint, cannotGrow, isPrime}
-use Rattle.cubes.specs.Records.{recordOf, recordsOf}
-use Rattle.cubes.specs.Listing.{Table, Call, primeOf, listingFault, passage, listing, Answer, listingAnswer, listingAfter}
+use Rattle.cubes.specs.Records.{candidateBytes, onCount, recordOf}
+use Rattle.cubes.specs.Listing.{Table, Call, primeOf, listingFault, passage, listingBy, Answer, listingAnswer, listingAfter, listingAnswerBy, listingAfterBy}
 
 -- ---- the primes of a table
 
@@ -76,20 +76,26 @@ pub answers-p9 : AnswersHold
     ∷ answered (p9 .table) 11 99 (7 ∷ []) 0 11 0 0 (7 ∷ [])
     ∷ answered (p9 .table) 12 0 (7 ∷ []) 9 0 0 0 (7 ∷ [])
     ∷ [])
-unfolding AnswersHold answered table p9 holds all select bit halvings lead clear reduce flatMap keep spans bases candidatesOf candidatesFrom candidates everyPoint somePoint cannotGrow isPrime firstFault tableTests badCount outside notAbove unordered shared recordOf recordsOf listingFault passage listing listingAnswer listingAfter
+unfolding AnswersHold answered table p9 holds all select bit halvings lead clear reduce flatMap keep spans bases candidatesOf candidatesFrom candidates everyPoint somePoint cannotGrow isPrime firstFault tableTests badCount outside notAbove unordered shared pointsOf candidateBytes onCount recordOf listingFault passage listingBy listingAnswerBy listingAfterBy
 answers-p9 = (refl, refl, (refl, refl, (refl, refl, tt)))
 
--- P6: without room, with room for one record and a byte, with room for just all records, and with no allowance.
+-- P6: with room for a byte less than a record, for one record and a byte, for just all records, and with no allowance. All its points are on, so the
+-- count is the size.
 pub answers-p6 : AnswersHold
-    (answered (p6 .table) 0 99 (replicate 7 9) 0 12 12 0 (replicate 7 9)
-    ∷ answered (p6 .table) 12 99 (replicate 9 9) 0 32 20 1 (2 ∷ 2 ∷ 1 ∷ 4 ∷ 0 ∷ 0 ∷ 0 ∷ 0 ∷ 9 ∷ [])
-    ∷ answered (p6 .table) 0 99 (replicate 40 9) 0 51 51 5
-    (2 ∷ 2 ∷ 1 ∷ 4 ∷ 0 ∷ 0 ∷ 0 ∷ 0 ∷ 1 ∷ 2 ∷ 7 ∷ 0 ∷ 0 ∷ 0 ∷ 0 ∷ 0 ∷ 1 ∷ 3 ∷ 6 ∷ 0 ∷ 0 ∷ 0 ∷ 0 ∷ 0
-    ∷ 1 ∷ 5 ∷ 2 ∷ 0 ∷ 0 ∷ 0 ∷ 0 ∷ 0 ∷ 1 ∷ 5 ∷ 3 ∷ 0 ∷ 0 ∷ 0 ∷ 0 ∷ 0 ∷ [])
-    ∷ answered (p6 .table) 12 0 (replicate 9 9) 0 12 0 0 (replicate 9 9)
+    (answered (p6 .table) 0 99 (replicate 8 7) 0 12 12 0 (replicate 8 7)
+    ∷ answered (p6 .table) 12 99 (replicate 10 7) 0 32 20 1 (2 ∷ 2 ∷ 1 ∷ 4 ∷ 0 ∷ 0 ∷ 0 ∷ 0 ∷ 4 ∷ 7 ∷ [])
+    ∷ answered (p6 .table) 0 99 (replicate 45 7) 0 51 51 5
+    (2 ∷ 2 ∷ 1 ∷ 4 ∷ 0 ∷ 0 ∷ 0 ∷ 0 ∷ 4 ∷ 1 ∷ 2 ∷ 7 ∷ 0 ∷ 0 ∷ 0 ∷ 0 ∷ 0 ∷ 2 ∷ 1 ∷ 3 ∷ 6 ∷ 0 ∷ 0 ∷ 0 ∷ 0 ∷ 0 ∷ 2
+    ∷ 1 ∷ 5 ∷ 2 ∷ 0 ∷ 0 ∷ 0 ∷ 0 ∷ 0 ∷ 2 ∷ 1 ∷ 5 ∷ 3 ∷ 0 ∷ 0 ∷ 0 ∷ 0 ∷ 0 ∷ 2 ∷ [])
+    ∷ answered (p6 .table) 12 0 (replicate 10 7) 0 12 0 0 (replicate 10 7)
     ∷ [])
-unfolding AnswersHold answered table p6 holds all select bit halvings lead clear reduce flatMap keep spans bases candidatesOf candidatesFrom candidates everyPoint somePoint cannotGrow isPrime firstFault tableTests badCount outside notAbove unordered shared recordOf recordsOf listingFault passage listing listingAnswer listingAfter
+unfolding AnswersHold answered table p6 holds all select bit halvings lead clear reduce flatMap keep spans bases candidatesOf candidatesFrom candidates everyPoint somePoint cannotGrow isPrime firstFault tableTests badCount outside notAbove unordered shared pointsOf candidateBytes onCount recordOf listingFault passage listingBy listingAnswerBy listingAfterBy
 answers-p6 = (refl, refl, (refl, refl, (refl, refl, (refl, refl, tt))))
+
+-- Free points don't count: P8's table has two primes of two points, one of which is on in each.
+pub answers-p8 : AnswersHold (answered (p8 .table) 0 99 (replicate 18 7) 0 11 11 2 (1 ∷ 0 ∷ 1 ∷ 0 ∷ 0 ∷ 0 ∷ 0 ∷ 0 ∷ 1 ∷ 1 ∷ 0 ∷ 2 ∷ 0 ∷ 0 ∷ 0 ∷ 0 ∷ 0 ∷ 1 ∷ []) ∷ [])
+unfolding AnswersHold answered table p8 holds all select bit halvings lead clear reduce flatMap keep spans bases candidatesOf candidatesFrom candidates everyPoint somePoint cannotGrow isPrime firstFault tableTests badCount outside notAbove unordered shared pointsOf candidateBytes onCount recordOf listingFault passage listingBy listingAnswerBy listingAfterBy
+answers-p8 = (refl, refl, tt)
 
 -- Refused tables, each for two faults, the first of which is given.
 pub answers-refused : AnswersHold
@@ -98,7 +104,7 @@ pub answers-refused : AnswersHold
     ∷ answered (table 2 (1 ∷ 1 ∷ []) (1 ∷ [])) 0 1 (9 ∷ []) 3 0 0 0 (9 ∷ [])
     ∷ answered (table 2 (1 ∷ []) (1 ∷ [])) 12 1 (9 ∷ []) 4 0 0 0 (9 ∷ [])
     ∷ [])
-unfolding AnswersHold answered table holds all select bit halvings lead clear reduce flatMap keep spans bases candidatesOf candidatesFrom candidates everyPoint somePoint cannotGrow isPrime firstFault tableTests badCount outside notAbove unordered shared recordOf recordsOf listingFault passage listing listingAnswer listingAfter
+unfolding AnswersHold answered table holds all select bit halvings lead clear reduce flatMap keep spans bases candidatesOf candidatesFrom candidates everyPoint somePoint cannotGrow isPrime firstFault tableTests badCount outside notAbove unordered shared pointsOf candidateBytes onCount recordOf listingFault passage listingBy listingAnswerBy listingAfterBy
 answers-refused = (refl, refl, (refl, refl, (refl, refl, (refl, refl, tt))))
 
 -- ---- the order of candidates

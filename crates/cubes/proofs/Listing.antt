@@ -1,19 +1,19 @@
--- Laws of specs.Records and specs.Listing: a record has its length and tells its candidate; the listing rule is obeyed, in one way only; a call is
--- accepted exactly when no test applies. Read next: Calls.
-use mathlib.Core.Path.{_≡_, refl, sym, ap, ap₂, _∙_}
+-- Laws of specs.Records and specs.Listing: a record has its length and tells its candidate; the listing rule is obeyed, in one way only, and goes by the
+-- number of records that the room has place for; a call is accepted exactly when no test applies. Read next: Calls.
+use mathlib.Core.Path.{_≡_, refl, sym, ap, ap₂, _∙_, subst}
 use mathlib.Core.Bool.{Bool, true, false, cond}
 use mathlib.Core.Logic.{inl, inr, _↔_}
-use mathlib.Core.List.{List, [], _∷_, _++_, flatMap}
-use Prim.Native.Nat.{ℕ, zero, suc, _+_, _-_, _*_, _≤_, _<_, zero-le}
-use native.Mathlib.Nat.{lt-of-not-le, eq-or-lt-of-le}
+use mathlib.Core.List.{List, [], _∷_, _++_, flatMap, append-assoc}
+use Prim.Native.Nat.{ℕ, zero, suc, _+_, _-_, _*_, _/_, _≤_, _<_, zero-le}
+use native.Mathlib.Nat.{lt-of-not-le, eq-or-lt-of-le, mul-comm, mul-le-mul-left, le-div-iff-mul-le}
 use native.Mathlib.Decide.{decLe}
 use native.Mathlib.Omega.{arith}
 use lib.ListN.{length, getD, take, drop, replicate, length-append, length-replicate}
-use lib.Seq.{take-add, take-at}
+use lib.Seq.{take-add, take-at, getD-append-seam}
 use lib.Dec.{ltb}
 use borrow.Author.Tests.{ltb-true, ltb-false, eqb-true, eqb-false, eq-eqb}
 use Rattle.gf2.specs.Finite.{Mem, holds}
-use Rattle.gf2.proofs.Finite.{flatMap-append}
+use Rattle.gf2.proofs.Finite.{flatMap-append, drop-mem}
 use Rattle.table.specs.Refusal.{firstFault, Numbered, NoneApplies}
 use Rattle.table.specs.Decision.{front}
 use Rattle.table.specs.Table.{tableTests}
@@ -22,68 +22,85 @@ use Rattle.table.proofs.Decide.{decide-accepted, decide-refused}
 use Rattle.cubes.specs.Lists.{keep}
 use Rattle.cubes.specs.Cubes.{Candidate, candidate, degree}
 use Rattle.cubes.specs.Candidates.{candidates, candidateCount}
-use Rattle.cubes.specs.Records.{maxListed, recordLength, recordOf, recordsOf}
-use Rattle.cubes.specs.Listing.{Call, primeOf, listingTests, listingFault, accepted, Passage, nothing, passing, writing, passage, Full, ListingRule, listing, listingRefused, listingAccepted, listingAnswer, listingAfter}
-use Rattle.cubes.proofs.Lists.{keep-append}
+use Rattle.cubes.specs.Records.{maxListed, candidateLength, recordLength, candidateBytes, onCount, recordOf, candidateTold}
+use Rattle.cubes.specs.Listing.{Table, Call, primeOf, recordIn, recordsOf, listingTests, listingFault, accepted, Passage, nothing, passing, writing, passage, Full, ListingRule, aheadOf, listingBy, listingRefused, listingAccepted, listingAnswerBy, listingAfterBy}
+use Rattle.cubes.proofs.Lists.{keep-append, keep-mem, take-mem}
+use Rattle.cubes.proofs.Cubes.{degree-most}
+use Rattle.cubes.proofs.Candidates.{candidate-is}
 
 -- ---- records
 
-pub record-length : (c : Candidate) → degree c ≤ maxListed → length (recordOf c) ≡ recordLength
-unfolding recordOf
-record-length c h =
-    omega (arith, length-append (c .vectors) (replicate (recordLength - (2 + degree c)) 0), length-replicate {A = ℕ} (recordLength - (2 + degree c)) 0)
+-- Lists of b numbers each, joined.
+pub flat-length : {A : Type 0} (f : A → List ℕ) (b : ℕ) (l : List A) → ((a : A) → Mem a l → length (f a) ≡ b) → length (flatMap f l) ≡ b * length l
+unfolding flatMap
+flat-length f b [] h = omega arith
+flat-length f b (a ∷ l) h = omega (arith, length-append (f a) (flatMap f l), h a (inl refl), flat-length f b l (λ c m. h c (inr m)))
 
-pub records-append : (l m : List Candidate) → recordsOf (l ++ m) ≡ recordsOf l ++ recordsOf m
+pub candidate-length : (c : Candidate) → degree c ≤ maxListed → length (candidateBytes c) ≡ candidateLength
+unfolding candidateBytes
+candidate-length c h =
+    omega (arith, length-append (c .vectors) (replicate (candidateLength - (2 + degree c)) 0), length-replicate {A = ℕ} (candidateLength - (2 + degree c)) 0)
+
+module _ (n : ℕ) (on : ℕ → Bool) where
+  pub record-length : (c : Candidate) → degree c ≤ maxListed → length (recordOf n on c) ≡ recordLength
+  unfolding recordOf
+  record-length c h = omega (arith, length-append (candidateBytes c) (onCount n on c ∷ []), candidate-length c h)
+
+  -- Its first bytes are those of its candidate, and the last is the count.
+  pub record-candidate : (c : Candidate) → degree c ≤ maxListed → take candidateLength (recordOf n on c) ≡ candidateBytes c
+  unfolding recordOf
+  record-candidate c h = take-at (candidateBytes c) (onCount n on c ∷ []) candidateLength (candidate-length c h)
+
+  pub record-count : (c : Candidate) → degree c ≤ maxListed → getD (recordOf n on c) candidateLength 0 ≡ onCount n on c
+  unfolding recordOf
+  record-count c h =
+      ap (λ (k : ℕ). getD (candidateBytes c ++ (onCount n on c ∷ [])) k 0) (sym (candidate-length c h)) ∙ getD-append-seam (candidateBytes c) (onCount n on c) [] 0
+
+  -- A record tells its candidate.
+  pub record-tells : (c : Candidate) → candidateTold (recordOf n on c) ≡ c
+  unfolding recordOf candidateBytes
+  record-tells c =
+      ap (candidate (c .point)) (ap (take (degree c)) (append-assoc (c .vectors) (replicate (candidateLength - (2 + degree c)) 0) (onCount n on c ∷ []))
+      ∙ take-at (c .vectors) (replicate (candidateLength - (2 + degree c)) 0 ++ (onCount n on c ∷ [])) (degree c) refl)
+
+  pub record-one : (a b : Candidate) → recordOf n on a ≡ recordOf n on b → a ≡ b
+  record-one a b e = sym (record-tells a) ∙ ap candidateTold e ∙ record-tells b
+
+pub records-append : (t : Table) (l m : List Candidate) → recordsOf t (l ++ m) ≡ recordsOf t l ++ recordsOf t m
 unfolding recordsOf
-records-append = flatMap-append recordOf
+records-append t = flatMap-append (recordIn t)
 
-pub records-length : (l : List Candidate) → ((c : Candidate) → Mem c l → degree c ≤ maxListed) → length (recordsOf l) ≡ recordLength * length l
-unfolding recordsOf flatMap
-records-length [] h = refl
-records-length (c ∷ l) h =
-    omega (arith, length-append (recordOf c) (flatMap recordOf l), record-length c (h c (inl refl)), records-length l (λ d m. h d (inr m)))
-
--- A record tells its candidate.
-record-vectors : (c : Candidate) → take (getD (recordOf c) 0 0) (drop 2 (recordOf c)) ≡ c .vectors
-unfolding recordOf
-record-vectors c = take-at (c .vectors) (replicate (recordLength - (2 + degree c)) 0) (degree c) refl
-
-record-point : (c : Candidate) → getD (recordOf c) 1 0 ≡ c .point
-unfolding recordOf
-record-point c = refl
-
-pub record-one : (a b : Candidate) → recordOf a ≡ recordOf b → a ≡ b
-record-one a b e =
-    ap₂ candidate (sym (record-point a) ∙ ap (λ l. getD l 1 0) e ∙ record-point b)
-    (sym (record-vectors a) ∙ ap (λ l. take (getD l 0 0) (drop 2 l)) e ∙ record-vectors b)
+pub records-length : (t : Table) (l : List Candidate) → ((c : Candidate) → Mem c l → degree c ≤ maxListed) → length (recordsOf t l) ≡ recordLength * length l
+unfolding recordsOf
+records-length t l h = flat-length (recordIn t) recordLength l (λ c m. record-length (t .variables) (holds (t .on)) c (h c m))
 
 -- ---- the listing rule
 
-pub passage-rule : (prime : Candidate → Bool) (cs : List Candidate) (a m : ℕ) → ListingRule prime cs a m (passage prime cs a m)
+pub passage-rule : (bytes : ℕ) (prime : Candidate → Bool) (cs : List Candidate) (a m : ℕ) → ListingRule bytes prime cs a m (passage bytes prime cs a m)
 unfolding passage keep
-passage-rule prime [] a m = record { along = zero-le; paid = zero-le; found = refl; fits = zero-le; stops = inl refl }
-passage-rule prime (c ∷ cs) zero m = record { along = zero-le; paid = zero-le; found = refl; fits = zero-le; stops = inr (inl refl) }
-passage-rule prime (c ∷ cs) (suc a) m = go (prime c) refl (ltb m recordLength) refl (passage-rule prime cs a (m - recordLength)) (passage-rule prime cs a m)
+passage-rule bytes prime [] a m = record { along = zero-le; paid = zero-le; found = refl; fits = omega arith; stops = inl refl }
+passage-rule bytes prime (c ∷ cs) zero m = record { along = zero-le; paid = zero-le; found = refl; fits = omega arith; stops = inr (inl refl) }
+passage-rule bytes prime (c ∷ cs) (suc a) m = go (prime c) refl (ltb m bytes) refl (passage-rule bytes prime cs a (m - bytes)) (passage-rule bytes prime cs a m)
   where
-    go : (t : Bool) → prime c ≡ t → (u : Bool) → ltb m recordLength ≡ u
-        → ListingRule prime cs a (m - recordLength) (passage prime cs a (m - recordLength)) → ListingRule prime cs a m (passage prime cs a m)
-        → ListingRule prime (c ∷ cs) (suc a) m (cond t (cond u nothing (writing c (passage prime cs a (m - recordLength)))) (passing (passage prime cs a m)))
+    go : (t : Bool) → prime c ≡ t → (u : Bool) → ltb m bytes ≡ u
+        → ListingRule bytes prime cs a (m - bytes) (passage bytes prime cs a (m - bytes)) → ListingRule bytes prime cs a m (passage bytes prime cs a m)
+        → ListingRule bytes prime (c ∷ cs) (suc a) m (cond t (cond u nothing (writing c (passage bytes prime cs a (m - bytes)))) (passing (passage bytes prime cs a m)))
     go true e true l i j = record {
       along = zero-le;
       paid = zero-le;
       found = refl;
-      fits = zero-le;
-      stops = inr (inr (record { next = c; others = cs; first = refl; is-prime = e; short = ltb-true m recordLength l }));
+      fits = omega arith;
+      stops = inr (inr (record { next = c; others = cs; first = refl; is-prime = e; short = omega (arith, ltb-true m bytes l) }));
     }
     go true e false l i j = record {
       along = omega (arith, i .along);
       paid = omega (arith, i .paid);
       found = rw e (ap (λ x. c ∷ x) (i .found));
-      fits = omega (arith, i .fits, ltb-false m recordLength l);
+      fits = omega (arith, i .fits, ltb-false m bytes l);
       stops = elim (i .stops) [
         | inl s ↦ inl (ap suc s)
         | inr (inl s) ↦ inr (inl (ap suc s))
-        | inr (inr s) ↦ inr (inr (record { next = s .next; others = s .others; first = s .first; is-prime = s .is-prime; short = omega (arith, s .short, ltb-false m recordLength l) }))
+        | inr (inr s) ↦ inr (inr (record { next = s .next; others = s .others; first = s .first; is-prime = s .is-prime; short = omega (arith, s .short, ltb-false m bytes l) }))
       ];
     }
     go false e u l i j = record {
@@ -94,9 +111,9 @@ passage-rule prime (c ∷ cs) (suc a) m = go (prime c) refl (ltb m recordLength)
       stops = elim (j .stops) [ inl s ↦ inl (ap suc s) | inr (inl s) ↦ inr (inl (ap suc s)) | inr (inr s) ↦ inr (inr s) ];
     }
 
-module _ {prime : Candidate → Bool} {ahead : List Candidate} {allowance room : ℕ} where
+module _ {bytes : ℕ} {prime : Candidate → Bool} {ahead : List Candidate} {allowance room : ℕ} where
   -- With candidates ahead, an allowance and room for a record, it moves on.
-  pub rule-moves : {p : Passage} → ListingRule prime ahead allowance room p → 0 < length ahead → 0 < allowance → recordLength ≤ room → 0 < p .passed
+  pub rule-moves : {p : Passage} → ListingRule bytes prime ahead allowance room p → 0 < length ahead → 0 < allowance → bytes ≤ room → 0 < p .passed
   unfolding keep
   rule-moves {p} l h k r = go (p .passed) refl
     where
@@ -107,11 +124,11 @@ module _ {prime : Candidate → Bool} {ahead : List Candidate} {allowance room :
           elim (l .stops) [
             | inl s ↦ omega arith
             | inr (inl s) ↦ omega arith
-            | inr (inr s) ↦ absurd (omega (arith, s .short, ap length none))
+            | inr (inr s) ↦ absurd (omega (arith, subst (λ (l : List Candidate). room < bytes * suc (length l)) none (s .short)))
           ]
 
   -- Two passages that obey the rule are one.
-  no-further : {p q : Passage} → ListingRule prime ahead allowance room p → ListingRule prime ahead allowance room q → p .passed < q .passed → ⊥
+  no-further : {p q : Passage} → ListingRule bytes prime ahead allowance room p → ListingRule bytes prime ahead allowance room q → p .passed < q .passed → ⊥
   unfolding keep
   no-further {p} {q} k l h = elim (k .stops) [
     | inl s ↦ omega (arith, l .along)
@@ -119,7 +136,7 @@ module _ {prime : Candidate → Bool} {ahead : List Candidate} {allowance room :
     | inr (inr s) ↦ more s
   ]
     where
-      more : Full prime (drop (p .passed) ahead) (p .primes) room → ⊥
+      more : Full bytes prime (drop (p .passed) ahead) (p .primes) room → ⊥
       more s =
           let j : ℕ = q .passed - p .passed - 1 in
           let e : q .passed ≡ p .passed + suc j = omega arith in
@@ -127,15 +144,53 @@ module _ {prime : Candidate → Bool} {ahead : List Candidate} {allowance room :
           l .found ∙ ap (λ (z : ℕ). keep prime (take z ahead)) e ∙ ap (keep prime) (take-add (p .passed) (suc j) ahead)
           ∙ keep-append prime (take (p .passed) ahead) (take (suc j) (drop (p .passed) ahead))
           ∙ ap₂ _++_ (sym (k .found)) (ap (λ x. keep prime (take (suc j) x)) (s .first) ∙ rw (s .is-prime)) in
-          omega (arith, l .fits, s .short, ap length f, length-append (p .primes) (s .next ∷ keep prime (take j (s .others))))
+          let more : suc (length (p .primes)) ≤ length (q .primes) = omega (arith, ap length f, length-append (p .primes) (s .next ∷ keep prime (take j (s .others)))) in
+          omega (arith, l .fits, s .short, mul-le-mul-left bytes more)
 
-  pub rule-only : {p q : Passage} → ListingRule prime ahead allowance room p → ListingRule prime ahead allowance room q → p ≡ q
+  pub rule-only : {p q : Passage} → ListingRule bytes prime ahead allowance room p → ListingRule bytes prime ahead allowance room q → p ≡ q
   rule-only {p} {q} k l =
       let e : p .passed ≡ q .passed = elim (decLe (p .passed) (q .passed)) [
         | yes h ↦ elim (eq-or-lt-of-le h) [ inl s ↦ s | inr s ↦ absurd (no-further k l s) ]
         | no h ↦ absurd (no-further l k (lt-of-not-le h))
       ] in
       ap₂ (λ (n : ℕ) (cs : List Candidate). record { passed = n; primes = cs }) e (k .found ∙ ap (λ (z : ℕ). keep prime (take z ahead)) e ∙ sym (l .found))
+
+-- So many records of a bytes fit exactly if there are at most as many as the room has whole ones.
+fit-count : {a : ℕ} → 0 < a → (r k : ℕ) → (a * k ≤ r) ↔ (k ≤ r / a)
+fit-count {a} h r k = (
+  λ l. le-div-iff-mul-le h .1 (subst (λ (z : ℕ). z ≤ r) (mul-comm a k) l),
+  λ l. subst (λ (z : ℕ). z ≤ r) (mul-comm k a) (le-div-iff-mul-le h .0 l),
+)
+
+-- With room for as many records, of however many bytes each and whatever bytes are left over, the rule says the same.
+module _ {a b : ℕ} (ha : 0 < a) (hb : 0 < b) (r s : ℕ) (e : r / a ≡ s / b) where
+  fit-also : (k : ℕ) → (a * k ≤ r) ↔ (b * k ≤ s)
+  fit-also k = (
+    λ l. fit-count hb s k .1 (subst (λ (z : ℕ). k ≤ z) e (fit-count ha r k .0 l)),
+    λ l. fit-count ha r k .1 (subst (λ (z : ℕ). k ≤ z) (sym e) (fit-count hb s k .0 l)),
+  )
+
+  short-also : (k : ℕ) → r < a * k → s < b * k
+  short-also k h = elim (decLe (b * k) s) [
+    | yes l ↦ absurd (omega (arith, fit-also k .1 l))
+    | no l ↦ lt-of-not-le l
+  ]
+
+  rule-room : {prime : Candidate → Bool} {ahead : List Candidate} {allowance : ℕ} {p : Passage} → ListingRule a prime ahead allowance r p → ListingRule b prime ahead allowance s p
+  rule-room {p = p} l = record {
+    along = l .along;
+    paid = l .paid;
+    found = l .found;
+    fits = fit-also (length (p .primes)) .0 (l .fits);
+    stops = elim (l .stops) [
+      | inl t ↦ inl t
+      | inr (inl t) ↦ inr (inl t)
+      | inr (inr t) ↦ inr (inr (record { next = t .next; others = t .others; first = t .first; is-prime = t .is-prime; short = short-also (suc (length (p .primes))) (t .short) }))
+    ];
+  }
+
+  pub passage-room : (prime : Candidate → Bool) (ahead : List Candidate) (allowance : ℕ) → passage a prime ahead allowance r ≡ passage b prime ahead allowance s
+  passage-room prime ahead allowance = rule-only (rule-room (passage-rule a prime ahead allowance r)) (passage-rule b prime ahead allowance s)
 
 -- ---- accepted and refused calls
 
@@ -158,23 +213,33 @@ pub accepted-place : (c : Call) → accepted c ≡ true → c .place ≤ candida
 unfolding tableTests
 accepted-place c e = ltb-false (candidateCount (c .table .variables)) (c .place) (accepted-is c .0 e _ (inr (inr (inr (inr (inr (inl refl)))))))
 
-pub answer-on : (c : Call) → accepted c ≡ true → listingAnswer c ≡ listingAccepted (c .place) (listing c)
-unfolding listingAnswer listingFault
-answer-on c e = decide-accepted (listingTests c) (listingAccepted (c .place) (listing c)) listingRefused (eqb-true (firstFault (listingTests c)) 0 e)
+module _ (bytes : ℕ) (c : Call) where
+  pub answer-on : accepted c ≡ true → listingAnswerBy bytes c ≡ listingAccepted (c .place) (listingBy bytes c)
+  unfolding listingAnswerBy listingFault
+  answer-on e = decide-accepted (listingTests c) (listingAccepted (c .place) (listingBy bytes c)) listingRefused (eqb-true (firstFault (listingTests c)) 0 e)
 
-pub answer-off : (c : Call) → accepted c ≡ false → listingAnswer c ≡ listingRefused (listingFault c)
-unfolding listingAnswer listingFault
-answer-off c e = decide-refused (listingTests c) (listingAccepted (c .place) (listing c)) listingRefused (firstFault (listingTests c)) (eqb-false (firstFault (listingTests c)) 0 e) refl
+  pub answer-off : accepted c ≡ false → listingAnswerBy bytes c ≡ listingRefused (listingFault c)
+  unfolding listingAnswerBy listingFault
+  answer-off e =
+      decide-refused (listingTests c) (listingAccepted (c .place) (listingBy bytes c)) listingRefused (firstFault (listingTests c)) (eqb-false (firstFault (listingTests c)) 0 e) refl
 
-pub room-on : (c : Call) → accepted c ≡ true → listingAfter c ≡ front (recordsOf (listing c .primes)) (c .room)
-unfolding listingAfter listingFault
-room-on c e = decide-accepted (listingTests c) (front (recordsOf (listing c .primes)) (c .room)) (λ number. c .room) (eqb-true (firstFault (listingTests c)) 0 e)
+  pub room-on : (written : Candidate → List ℕ) → accepted c ≡ true → listingAfterBy bytes written c ≡ front (flatMap written (listingBy bytes c .primes)) (c .room)
+  unfolding listingAfterBy listingFault
+  room-on written e =
+      decide-accepted (listingTests c) (front (flatMap written (listingBy bytes c .primes)) (c .room)) (λ number. c .room) (eqb-true (firstFault (listingTests c)) 0 e)
 
-pub room-off : (c : Call) → accepted c ≡ false → listingAfter c ≡ c .room
-unfolding listingAfter listingFault
-room-off c e =
-    decide-refused (listingTests c) (front (recordsOf (listing c .primes)) (c .room)) (λ number. c .room) (firstFault (listingTests c)) (eqb-false (firstFault (listingTests c)) 0 e) refl
+  pub room-off : (written : Candidate → List ℕ) → accepted c ≡ false → listingAfterBy bytes written c ≡ c .room
+  unfolding listingAfterBy listingFault
+  room-off written e =
+      decide-refused (listingTests c) (front (flatMap written (listingBy bytes c .primes)) (c .room)) (λ number. c .room) (firstFault (listingTests c)) (eqb-false (firstFault (listingTests c)) 0 e) refl
 
-pub call-rule : (c : Call) → ListingRule (primeOf (c .table)) (drop (c .place) (candidates (c .table .variables))) (c .allowance) (length (c .room)) (listing c)
-unfolding listing
-call-rule c = passage-rule (primeOf (c .table)) (drop (c .place) (candidates (c .table .variables))) (c .allowance) (length (c .room))
+  pub call-rule : ListingRule bytes (primeOf (c .table)) (aheadOf c) (c .allowance) (length (c .room)) (listingBy bytes c)
+  unfolding listingBy
+  call-rule = passage-rule bytes (primeOf (c .table)) (aheadOf c) (c .allowance) (length (c .room))
+
+  -- The primes found are candidates of at most six directions.
+  pub found-small : accepted c ≡ true → (d : Candidate) → Mem d (listingBy bytes c .primes) → degree d ≤ maxListed
+  found-small e d m =
+      let i = keep-mem (primeOf (c .table)) (take (listingBy bytes c .passed) (aheadOf c)) d (subst (Mem d) (call-rule .found) m) .0 in
+      let j = drop-mem (c .place) (candidates (c .table .variables)) d (take-mem (listingBy bytes c .passed) (aheadOf c) d i) in
+      omega (arith, accepted-small c e, degree-most (c .table .variables) d (candidate-is (c .table .variables) d .0 j))

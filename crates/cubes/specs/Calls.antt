@@ -11,8 +11,8 @@ use Rattle.cubes.specs.Lists.{keep}
 use Rattle.cubes.specs.Cubes.{Candidate}
 use Rattle.cubes.specs.Candidates.{candidates, candidateCount}
 use Rattle.cubes.specs.Primes.{Prime}
-use Rattle.cubes.specs.Records.{recordLength, recordsOf}
-use Rattle.cubes.specs.Listing.{Table, Call, primeOf, listingFault, ListingRule, listing, listingRefused, listingAnswer, listingAfter}
+use Rattle.cubes.specs.Records.{recordLength}
+use Rattle.cubes.specs.Listing.{Table, Call, primeOf, recordsOf, listingFault, ListingRule, aheadOf, listing, listingRefused, listingAnswer, listingAfter}
 
 -- ---- one call
 
@@ -24,11 +24,11 @@ handedOver c = take (recordLength * listingAnswer c .records) (listingAfter c)
 -- room and the rest of the room as lent.
 pub record Obeyed (c : Call) : Type 0 where
   pub refusal : listingAnswer c .refusal ≡ 0
-  pub rule : ListingRule (primeOf (c .table)) (drop (c .place) (candidates (c .table .variables))) (c .allowance) (length (c .room)) (listing c)
+  pub rule : ListingRule recordLength (primeOf (c .table)) (aheadOf c) (c .allowance) (length (c .room)) (listing c)
   pub passed : listingAnswer c .passed ≡ listing c .passed
   pub next : listingAnswer c .next ≡ c .place + listingAnswer c .passed
   pub records : listingAnswer c .records ≡ length (listing c .primes)
-  pub handed : handedOver c ≡ recordsOf (listing c .primes)
+  pub handed : handedOver c ≡ recordsOf (c .table) (listing c .primes)
   pub room : listingAfter c ≡ handedOver c ++ drop (recordLength * listingAnswer c .records) (c .room)
 
 -- A refused call: it returns its number, all other numbers 0, changes nothing lent, and hands over nothing.

@@ -1,8 +1,9 @@
--- A listing call and its answer on all inputs (document 01, "Primes" and "Refusal numbers"). Read next: Calls.
+-- A listing call and its answer on all inputs (document 01, "Primes" and "Refusal numbers"). The listing rule has the number of bytes of a record as a
+-- parameter, `bytes`, since document 02, No. 6 changes that number and nothing else of the rule. Read next: Calls.
 use mathlib.Core.Path.{_≡_}
 use mathlib.Core.Bool.{Bool, true, cond}
 use mathlib.Core.Logic.{_⊎_}
-use mathlib.Core.List.{List, [], _∷_, _++_}
+use mathlib.Core.List.{List, [], _∷_, _++_, flatMap}
 use Prim.Native.Nat.{ℕ, zero, suc, _+_, _-_, _*_, _≤_, _<_}
 use lib.ListN.{length, take, drop}
 use lib.Dec.{ltb, eqb}
@@ -14,7 +15,7 @@ use Rattle.cubes.specs.Lists.{keep}
 use Rattle.cubes.specs.Cubes.{Candidate}
 use Rattle.cubes.specs.Candidates.{candidates, candidateCount}
 use Rattle.cubes.specs.Primes.{isPrime}
-use Rattle.cubes.specs.Records.{maxListed, recordLength, recordsOf}
+use Rattle.cubes.specs.Records.{maxListed, recordLength, recordOf}
 
 -- A table: the number of variables, a list of on points and a list of free points.
 pub record Table : Type 0 where
@@ -32,6 +33,13 @@ pub record Call : Type 0 where
 -- The candidate is a prime of the table.
 abbrev pub primeOf : Table → Candidate → Bool
 primeOf t c = isPrime (t .variables) (holds (t .on)) (holds (t .free)) c
+
+-- The record of a candidate among the table's points, and those of some candidates, one after the other.
+abbrev pub recordIn : Table → Candidate → List ℕ
+recordIn t c = recordOf (t .variables) (holds (t .on)) c
+
+unfoldable pub recordsOf : Table → List Candidate → List ℕ
+recordsOf t cs = flatMap (recordIn t) cs
 
 -- ---- refusals
 
@@ -69,36 +77,43 @@ writing c p = record { passed = suc (p .passed); primes = c ∷ p .primes }
 -- Of the candidates ahead, with an allowance and so many bytes of room: a call passes candidates in order and stops at the end, when the
 -- allowance of candidates is spent, or before a prime that no longer fits. That it says what `ListingRule` does, and only that, is `passage-rule`
 -- and `rule-only`.
-unfoldable pub passage : (Candidate → Bool) → List Candidate → ℕ → ℕ → Passage
-passage prime [] allowance room = nothing
-passage prime (c ∷ cs) zero room = nothing
-passage prime (c ∷ cs) (suc allowance) room =
-    let written : Passage = writing c (passage prime cs allowance (room - recordLength)) in
-    let passed : Passage = passing (passage prime cs allowance room) in
-    let fitted : Passage = cond (ltb room recordLength) nothing written in
+unfoldable pub passage : ℕ → (Candidate → Bool) → List Candidate → ℕ → ℕ → Passage
+passage bytes prime [] allowance room = nothing
+passage bytes prime (c ∷ cs) zero room = nothing
+passage bytes prime (c ∷ cs) (suc allowance) room =
+    let written : Passage = writing c (passage bytes prime cs allowance (room - bytes)) in
+    let passed : Passage = passing (passage bytes prime cs allowance room) in
+    let fitted : Passage = cond (ltb room bytes) nothing written in
     cond (prime c) fitted passed
 
 -- The next candidate ahead is a prime, and its record doesn't fit into the room after the records of those found.
-pub record Full (prime : Candidate → Bool) (ahead found : List Candidate) (room : ℕ) : Type 0 where
+pub record Full (bytes : ℕ) (prime : Candidate → Bool) (ahead found : List Candidate) (room : ℕ) : Type 0 where
   pub next : Candidate
   pub others : List Candidate
   pub first : ahead ≡ next ∷ others
   pub is-prime : prime next ≡ true
-  pub short : room < recordLength * suc (length found)
+  pub short : room < bytes * suc (length found)
 
 -- The listing rule, said of the passage p.
-pub record ListingRule (prime : Candidate → Bool) (ahead : List Candidate) (allowance room : ℕ) (p : Passage) : Type 0 where
+pub record ListingRule (bytes : ℕ) (prime : Candidate → Bool) (ahead : List Candidate) (allowance room : ℕ) (p : Passage) : Type 0 where
   -- It passes candidates in order, and the primes among them fit.
   pub along : p .passed ≤ length ahead
   pub paid : p .passed ≤ allowance
   pub found : p .primes ≡ keep prime (take (p .passed) ahead)
-  pub fits : recordLength * length (p .primes) ≤ room
+  pub fits : bytes * length (p .primes) ≤ room
   -- It stops at the end, when the allowance is spent, or before a prime that no longer fits.
-  pub stops : (p .passed ≡ length ahead) ⊎ ((p .passed ≡ allowance) ⊎ Full prime (drop (p .passed) ahead) (p .primes) room)
+  pub stops : (p .passed ≡ length ahead) ⊎ ((p .passed ≡ allowance) ⊎ Full bytes prime (drop (p .passed) ahead) (p .primes) room)
 
--- How far a call goes: the candidates ahead are those from its place on.
-unfoldable pub listing : Call → Passage
-listing c = passage (primeOf (c .table)) (drop (c .place) (candidates (c .table .variables))) (c .allowance) (length (c .room))
+-- The candidates ahead of a call: those from its place on.
+abbrev pub aheadOf : Call → List Candidate
+aheadOf c = drop (c .place) (candidates (c .table .variables))
+
+-- How far a call goes with records of so many bytes; and with records of nine, as they are.
+unfoldable pub listingBy : ℕ → Call → Passage
+listingBy bytes c = passage bytes (primeOf (c .table)) (aheadOf c) (c .allowance) (length (c .room))
+
+abbrev pub listing : Call → Passage
+listing c = listingBy recordLength c
 
 -- ---- the answer
 
@@ -117,12 +132,24 @@ listingRefused k = record { refusal = k; next = 0; passed = 0; records = 0 }
 abbrev pub listingAccepted : ℕ → Passage → Answer
 listingAccepted place p = record { refusal = 0; next = place + p .passed; passed = p .passed; records = length (p .primes) }
 
+-- The decision over a call, in general and as it is.
+abbrev pub listingCallBy : ℕ → Call → Decision Answer
+listingCallBy bytes c = record { tests = listingTests c; accepted = listingAccepted (c .place) (listingBy bytes c); refused = listingRefused }
+
 abbrev pub listingCall : Call → Decision Answer
-listingCall c = record { tests = listingTests c; accepted = listingAccepted (c .place) (listing c); refused = listingRefused }
+listingCall c = listingCallBy recordLength c
 
-unfoldable pub listingAnswer : Call → Answer
-listingAnswer c = answerOf (listingCall c)
+unfoldable pub listingAnswerBy : ℕ → Call → Answer
+listingAnswerBy bytes c = answerOf (listingCallBy bytes c)
 
--- The room as the call returns: the records at its front and bytes after the last record as lent; unchanged by a refusal.
-unfoldable pub listingAfter : Call → List ℕ
-listingAfter c = afterOf (listingCall c) (recordsOf (listing c .primes)) (c .room)
+-- The room as a call returns that writes each prime so, in so many bytes: the records at its front and bytes after the last record as lent; unchanged
+-- by a refusal.
+unfoldable pub listingAfterBy : ℕ → (Candidate → List ℕ) → Call → List ℕ
+listingAfterBy bytes written c = afterOf (listingCallBy bytes c) (flatMap written (listingBy bytes c .primes)) (c .room)
+
+-- The answer of a call, and the room as it returns.
+abbrev pub listingAnswer : Call → Answer
+listingAnswer c = listingAnswerBy recordLength c
+
+abbrev pub listingAfter : Call → List ℕ
+listingAfter c = listingAfterBy recordLength (recordIn (c .table)) c

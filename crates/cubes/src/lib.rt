@@ -5,4 +5,4 @@
 pub const MAX_LISTED: usize = 6;
 
 // The number of bytes of a record, as `recordLength` in specs/.
-pub const RECORD_LENGTH: usize = 8;
+pub const RECORD_LENGTH: usize = 9;

@@ -2,13 +2,16 @@
 -- Read next: crate `cover`.
 use mathlib.Core.List.{List}
 use Prim.Native.Nat.{ℕ}
-use Rattle.cubes.specs.Listing.{Call, Answer}
+use Rattle.cubes.specs.Listing.{Table, Call, Answer}
 use Rattle.listing.specs.declared.Listed.{Listed}
 
--- The call with these arguments.
+-- The table with these arguments, and the call.
+abbrev pub tableOf : ℕ → List ℕ → List ℕ → Table
+tableOf n on free = record { variables = n; on = on; free = free }
+
 abbrev pub callOf : ℕ → List ℕ → List ℕ → ℕ → ℕ → List ℕ → Call
 callOf n on free place allowance room = record {
-  table = record { variables = n; on = on; free = free };
+  table = tableOf n on free;
   place = place;
   allowance = allowance;
   room = room;

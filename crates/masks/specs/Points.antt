@@ -1,6 +1,6 @@
 -- Sets of points as masks: bit x of a mask stands for point x (document 01, "Primes"). Read next: crate `walk`.
 use mathlib.Core.Path.{_≡_}
-use mathlib.Core.Bool.{Bool, true}
+use mathlib.Core.Bool.{Bool, true, cond}
 use mathlib.Core.List.{List}
 use Prim.Native.Nat.{ℕ, _^_, _<_}
 use Rattle.gf2.specs.Bits.{bit}
@@ -8,6 +8,7 @@ use Rattle.gf2.specs.Finite.{Mem, holds}
 use Rattle.moves.specs.Moves.{maskSize}
 use Rattle.cubes.specs.Cubes.{Candidate}
 use Rattle.cubes.specs.Primes.{everyPoint, isPrime}
+use Rattle.cubes.specs.Records.{onCount, recordOf}
 
 -- The mask is that of the list of points.
 abbrev pub MaskOf : List ℕ → ℕ → Type 0
@@ -28,3 +29,11 @@ EveryPoint vectors mask r = (x : ℕ) → bit x r ≡ everyPoint (λ y. bit y ma
 -- The candidate is a prime of the on and free points that two masks hold.
 abbrev pub primeBy : ℕ → ℕ → ℕ → Candidate → Bool
 primeBy n on free c = isPrime n (λ x. bit x on) (λ x. bit x free) c
+
+-- The number of on points in it if it is a prime, and 0 if it is none.
+abbrev pub countBy : ℕ → ℕ → ℕ → Candidate → ℕ
+countBy n on free c = cond (primeBy n on free c) (onCount n (λ x. bit x on) c) 0
+
+-- Its record among the on points that a mask holds.
+abbrev pub recordBy : ℕ → ℕ → Candidate → List ℕ
+recordBy n on c = recordOf n (λ x. bit x on) c

@@ -18,11 +18,11 @@ use Rattle.bases.specs.Bases.{entryCount, start, stop, entriesOf, takesPoint}
 use Rattle.bases.proofs.Table.{entries-at}
 use Rattle.walk.specs.declared.TakenEntry.{TakenEntry}
 use Rattle.walk.specs.declared.Tally.{Tally}
-use Rattle.masks.specs.Points.{primeBy}
+use Rattle.masks.specs.Points.{primeBy, recordBy}
 use Rattle.bases.specs.Entry.{candidateAt, EntryAt}
 use Rattle.bases.proofs.Bounds.{bounds, entry-mem}
 use Rattle.walk.specs.Places.{placed, FirstTaken}
-use Rattle.walk.specs.Walk.{State, state, pass, walk}
+use Rattle.walk.specs.Walk.{State, state, walk, passBy, walkBy}
 use Rattle.walk.proofs.Rows.{placed-taken}
 use Rattle.walk.proofs.Steps.{Kept, pass-kept, walk-on, walk-stop}
 
@@ -100,7 +100,7 @@ lower-ahead n six (suc d) hd h = let q : d ≡ suc d - 1 = omega arith in ahead-
 
 -- The walk from here, without the candidates that are still to be skipped, ends as the whole walk does.
 pub record Stand (n on free long : ℕ) (goal : State) (skip d p i : ℕ) (s : State) : Type 0 where
-  pub same : walk (primeBy n on free) (drop skip (ahead n d p i)) s ≡ goal
+  pub same : walkBy n on free (drop skip (ahead n d p i)) s ≡ goal
   pub few : n ≤ 6
   pub short : d ≤ n
   pub point : p < 2 ^ n
@@ -109,9 +109,9 @@ pub record Stand (n on free long : ℕ) (goal : State) (skip d p i : ℕ) (s : S
   pub kept : Kept long s
 
 pub stand-start : (n on free degree skip i : ℕ) (t : Tally) (room : List ℕ) → n ≤ 6 → degree ≤ n → i ≡ start degree → t .written ≡ 0
-    → Stand n on free (length room) (walk (primeBy n on free) (drop skip (candidatesFrom n degree)) (state t room)) skip degree 0 i (state t room)
+    → Stand n on free (length room) (walkBy n on free (drop skip (candidatesFrom n degree)) (state t room)) skip degree 0 i (state t room)
 stand-start n on free degree skip i t room h k e w = record {
-  same = ap (λ l. walk (primeBy n on free) (drop skip l) (state t room)) (sym (ahead-degree n degree h (omega arith) ∙ ap (ahead n degree 0) (sym e)));
+  same = ap (λ l. walkBy n on free (drop skip l) (state t room)) (sym (ahead-degree n degree h (omega arith) ∙ ap (ahead n degree 0) (sym e)));
   few = h;
   short = k;
   point = pow-pos n;
@@ -131,8 +131,8 @@ module _ {n on free long : ℕ} {goal : State} {skip d p i : ℕ} {s : State} (t
   small = omega (arith, t .point, pow-mono (t .few))
 
   module _ {r : TakenEntry} (f : FirstTaken n d p i skip r) where
-    here : walk (primeBy n on free) (drop (r .skip) (ahead n d p (r .at))) s ≡ goal
-    here = ap (λ l. walk (primeBy n on free) l s) (sym (ahead-same n d p i skip r f)) ∙ t .same
+    here : walkBy n on free (drop (r .skip) (ahead n d p (r .at))) s ≡ goal
+    here = ap (λ l. walkBy n on free l s) (sym (ahead-same n d p i skip r f)) ∙ t .same
 
     -- At an entry that is taken: nothing is left to skip.
     module _ {e : ℕ} (h : r .at < stop d) (q : e ≡ getD entries (r .at) 0) where
@@ -145,19 +145,19 @@ module _ {n on free long : ℕ} {goal : State} {skip d p i : ℕ} {s : State} (t
         taken = subst (λ (z : ℕ). takesPoint n p z ≡ true) (sym q) (f .taken h .1);
       }
 
-      front : walk (primeBy n on free) (candidateAt d p e ∷ ahead n d p (r .at + 1)) s ≡ goal
+      front : walkBy n on free (candidateAt d p e ∷ ahead n d p (r .at + 1)) s ≡ goal
       front =
-          ap (λ l. walk (primeBy n on free) l s)
+          ap (λ l. walkBy n on free l s)
           (sym (ap (λ (k : ℕ). drop k (ahead n d p (r .at))) (f .taken h .0) ∙ ahead-cons n d p (r .at) six h (f .taken h .1) ∙ ap (λ (z : ℕ). candidateAt d p z ∷ ahead n d p (r .at + 1)) (sym q))) ∙ here
 
-      module _ {u : State} (v : u ≡ pass (primeBy n on free) (candidateAt d p e) s) where
+      module _ {u : State} (v : u ≡ passBy n on free (candidateAt d p e) s) where
         pub passed-kept : Kept long u
-        passed-kept = subst (Kept long) (sym v) (pass-kept (primeBy n on free) (candidateAt d p e) long s (t .kept))
+        passed-kept = subst (Kept long) (sym v) (pass-kept (primeBy n on free) (recordBy n on) (candidateAt d p e) long s (t .kept))
 
         pub to-entry : u .tally .stopped ≡ false → Stand n on free long goal (r .skip) d p (r .at + 1) u
         to-entry z = record {
-          same = ap (λ (k : ℕ). walk (primeBy n on free) (drop k (ahead n d p (r .at + 1))) u) (f .taken h .0)
-              ∙ sym (walk-on (primeBy n on free) (candidateAt d p e) (ahead n d p (r .at + 1)) s u v z) ∙ front;
+          same = ap (λ (k : ℕ). walkBy n on free (drop k (ahead n d p (r .at + 1))) u) (f .taken h .0)
+              ∙ sym (walk-on (primeBy n on free) (recordBy n on) (candidateAt d p e) (ahead n d p (r .at + 1)) s u v z) ∙ front;
           few = t .few;
           short = t .short;
           point = t .point;
@@ -167,7 +167,7 @@ module _ {n on free long : ℕ} {goal : State} {skip d p i : ℕ} {s : State} (t
         }
 
         pub at-stop : u .tally .stopped ≡ true → u ≡ goal
-        at-stop z = sym (walk-stop (primeBy n on free) (candidateAt d p e) (ahead n d p (r .at + 1)) s u v z) ∙ front
+        at-stop z = sym (walk-stop (primeBy n on free) (recordBy n on) (candidateAt d p e) (ahead n d p (r .at + 1)) s u v z) ∙ front
 
     -- At the end of the entries.
     module _ (h : stop d ≤ r .at) where
@@ -176,7 +176,7 @@ module _ {n on free long : ℕ} {goal : State} {skip d p i : ℕ} {s : State} (t
 
       pub to-point : p + 1 < 2 ^ n → (j : ℕ) → j ≡ start d → Stand n on free long goal (r .skip) d (p + 1) j s
       to-point l j e = record {
-        same = ap (λ l. walk (primeBy n on free) (drop (r .skip) l) s)
+        same = ap (λ l. walkBy n on free (drop (r .skip) l) s)
             (ap₂ (λ (q k : ℕ). ahead n d q k) (add-one p) e
             ∙ sym (ahead-from n d (suc p) (t .few) six (omega arith)) ∙ sym (ahead-done n d p) ∙ ap (ahead n d p) (sym ended)) ∙ here;
         few = t .few;
@@ -187,17 +187,17 @@ module _ {n on free long : ℕ} {goal : State} {skip d p i : ℕ} {s : State} (t
         kept = t .kept;
       }
 
-      beyond : 2 ^ n ≤ p + 1 → walk (primeBy n on free) (drop (r .skip) (lower n d)) s ≡ goal
-      beyond l = ap (λ l. walk (primeBy n on free) (drop (r .skip) l) s) (sym (ahead-last n d p (omega arith)) ∙ ap (ahead n d p) (sym ended)) ∙ here
+      beyond : 2 ^ n ≤ p + 1 → walkBy n on free (drop (r .skip) (lower n d)) s ≡ goal
+      beyond l = ap (λ l. walkBy n on free (drop (r .skip) l) s) (sym (ahead-last n d p (omega arith)) ∙ ap (ahead n d p) (sym ended)) ∙ here
 
       pub at-end : 2 ^ n ≤ p + 1 → d ≡ 0 → s ≡ goal
       unfolding lower walk
       at-end l z =
-          ap (λ l. walk (primeBy n on free) l s) (sym (drop-nil (r .skip)) ∙ ap (λ (k : ℕ). drop (r .skip) (lower n k)) (sym z)) ∙ beyond l
+          ap (λ l. walkBy n on free l s) (sym (drop-nil (r .skip)) ∙ ap (λ (k : ℕ). drop (r .skip) (lower n k)) (sym z)) ∙ beyond l
 
       pub to-degree : 2 ^ n ≤ p + 1 → 0 < d → (j : ℕ) → j ≡ start (d - 1) → Stand n on free long goal (r .skip) (d - 1) 0 j s
       to-degree l z j e = record {
-        same = ap (λ l. walk (primeBy n on free) (drop (r .skip) l) s) (ap (ahead n (d - 1) 0) e ∙ sym (lower-ahead n (t .few) d six z)) ∙ beyond l;
+        same = ap (λ l. walkBy n on free (drop (r .skip) l) s) (ap (ahead n (d - 1) 0) e ∙ sym (lower-ahead n (t .few) d six z)) ∙ beyond l;
         few = t .few;
         short = omega (arith, t .short);
         point = pow-pos n;

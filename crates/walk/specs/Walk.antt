@@ -6,7 +6,8 @@ use lib.ListN.{length}
 use lib.Seq.{sets}
 use lib.Dec.{ltb, eqb}
 use Rattle.cubes.specs.Cubes.{Candidate}
-use Rattle.cubes.specs.Records.{recordLength, recordOf}
+use Rattle.cubes.specs.Records.{recordLength}
+use Rattle.masks.specs.Points.{primeBy, recordBy}
 use Rattle.walk.specs.declared.Tally.{Tally}
 
 -- The tally at the start of a walk: the whole allowance is left.
@@ -32,16 +33,23 @@ abbrev pub state : Tally → List ℕ → State
 state t room = record { tally = t; room = room }
 
 -- One candidate: the walk stops if the allowance is spent, or before a prime that no longer fits,
--- and otherwise passes it, and writes the record of a prime after the others.
-unfoldable pub pass : (Candidate → Bool) → Candidate → State → State
-pass prime c s =
+-- and otherwise passes it, and writes the record of a prime, which the test and the records tell, after the others.
+unfoldable pub pass : (Candidate → Bool) → (Candidate → List ℕ) → Candidate → State → State
+pass prime recorded c s =
     cond (eqb (s .tally .left) 0) (state (stopping (s .tally)) (s .room))
     (cond (prime c)
     (cond (ltb (length (s .room)) (recordLength * s .tally .written + recordLength)) (state (stopping (s .tally)) (s .room))
-    (state (writing (s .tally)) (sets (s .room) (recordLength * s .tally .written) (recordOf c))))
+    (state (writing (s .tally)) (sets (s .room) (recordLength * s .tally .written) (recorded c))))
     (state (passing (s .tally)) (s .room)))
 
 -- The candidates one after the other, until the walk stops. That it ends as the listing rule says is `walk-is`.
-unfoldable pub walk : (Candidate → Bool) → List Candidate → State → State
-walk prime [] s = s
-walk prime (c ∷ cs) s = cond (pass prime c s .tally .stopped) (pass prime c s) (walk prime cs (pass prime c s))
+unfoldable pub walk : (Candidate → Bool) → (Candidate → List ℕ) → List Candidate → State → State
+walk prime recorded [] s = s
+walk prime recorded (c ∷ cs) s = cond (pass prime recorded c s .tally .stopped) (pass prime recorded c s) (walk prime recorded cs (pass prime recorded c s))
+
+-- Both for the points of n variables that two masks hold.
+abbrev pub passBy : ℕ → ℕ → ℕ → Candidate → State → State
+passBy n on free = pass (primeBy n on free) (recordBy n on)
+
+abbrev pub walkBy : ℕ → ℕ → ℕ → List Candidate → State → State
+walkBy n on free = walk (primeBy n on free) (recordBy n on)

@@ -1,9 +1,10 @@
-// The walk over the candidates of a listing (document 01, "Primes"): degree, least point and entry of the table of bases, one after the other.
+// The walk over the candidates of a listing (document 01, "Primes"): degree, least point and entry of the table of bases, one after the other; a prime's
+// record has the number of on points in it behind those (document 02, No. 6).
 // What the functions say of their results is in specs/, the laws about that in proofs/. Read next: crate `listing`.
 use bases::entries::ENTRY_COUNT;
 use cubes::RECORD_LENGTH;
 ghost use mathlib.Core.Path.{_≡_};
-ghost use mathlib.Core.List.{_∷_};
+ghost use mathlib.Core.List.{[], _∷_, _++_};
 ghost use Prim.Native.Nat.{_+_, _*_, _^_, _≤_, _<_};
 ghost use lib.ListN.{length, drop};
 ghost use lib.Seq.{sets};
@@ -11,10 +12,10 @@ ghost use Rattle.cubes.specs.Candidates.{candidatesFrom};
 ghost use Rattle.cubes.specs.Records.{maxListed, recordLength};
 ghost use Rattle.bases.specs.Entries.{entries};
 ghost use Rattle.bases.specs.Bases.{stop, vectorsOf};
-ghost use Rattle.masks.specs.Points.{OfPoints, primeBy};
+ghost use Rattle.masks.specs.Points.{OfPoints};
 ghost use Rattle.bases.specs.Entry.{candidateAt, EntryAt};
 ghost use Rattle.walk.specs.Places.{FirstTaken};
-ghost use Rattle.walk.specs.Walk.{starting, passing, writing, stopping, state, pass, walk};
+ghost use Rattle.walk.specs.Walk.{starting, passing, writing, stopping, state, passBy, walkBy};
 
 // ---- the entries of the table of bases
 
@@ -59,11 +60,12 @@ fn first_taken(
 // ---- one candidate
 
 // The record after the first k records of the room.
-fn put(room: &mut [u8], k: usize, d: usize, p: u64, entry: u64)
+fn put(room: &mut [u8], k: usize, d: usize, p: u64, entry: u64, count: u32)
     requires { ⌜ recordLength * k + recordLength ≤ length (now room) ⌝ }
     requires { ⌜ d < 256 ⌝ }
     requires { ⌜ p < 256 ⌝ }
-    ensures { λ _. ⌜ now (room .exit) ≡ sets (now (room .entry)) (recordLength * k) (d ∷ p ∷ vectorsOf 6 entry) ⌝ }
+    requires { ⌜ count < 256 ⌝ }
+    ensures { λ _. ⌜ now (room .exit) ≡ sets (now (room .entry)) (recordLength * k) ((d ∷ p ∷ vectorsOf 6 entry) ++ (count ∷ [])) ⌝ }
 {
     let at = RECORD_LENGTH * k;
     room[at] = d as u8;
@@ -74,6 +76,7 @@ fn put(room: &mut [u8], k: usize, d: usize, p: u64, entry: u64)
     room[at + 5] = (entry / 256 / 256 / 256 % 256) as u8;
     room[at + 6] = (entry / 256 / 256 / 256 / 256 % 256) as u8;
     room[at + 7] = (entry / 256 / 256 / 256 / 256 / 256 % 256) as u8;
+    room[at + 8] = count as u8;
 }
 
 // What is left of a walk's allowance, how many records it has written, and whether it has stopped.
@@ -133,19 +136,20 @@ fn pass(
     requires { ⌜ OfPoints n free ⌝ }
     requires { ⌜ EntryAt n d p entry ⌝ }
     requires { ⌜ recordLength * tally .written ≤ length (now room) ⌝ }
-    ensures { λ r. ⌜ state r (now (room .exit)) ≡ pass (primeBy n on free) (candidateAt d p entry) (state tally (now (room .entry))) ⌝ }
+    ensures { λ r. ⌜ state r (now (room .exit)) ≡ passBy n on free (candidateAt d p entry) (state tally (now (room .entry))) ⌝ }
 {
     if tally.left == 0 {
         return tally.stopping();
     }
-    if !masks::is_prime(on, free, n, d, p, entry) {
+    let count = masks::prime_count(on, free, n, d, p, entry);
+    if count == 0 {
         return tally.passing();
     }
     let written = tally.written;
     if room.len() - RECORD_LENGTH * written < RECORD_LENGTH {
         return tally.stopping();
     }
-    put(&mut *room, written, d, p, entry);
+    put(&mut *room, written, d, p, entry, count);
     tally.writing()
 }
 
@@ -165,7 +169,7 @@ pub fn walk(
     requires { ⌜ OfPoints n free ⌝ }
     requires { ⌜ n ≤ maxListed ⌝ }
     requires { ⌜ degree ≤ n ⌝ }
-    ensures { λ r. ⌜ state r (now (room .exit)) ≡ walk (primeBy n on free) (drop skip (candidatesFrom n degree)) (state (starting allowance) (now (room .entry))) ⌝ }
+    ensures { λ r. ⌜ state r (now (room .exit)) ≡ walkBy n on free (drop skip (candidatesFrom n degree)) (state (starting allowance) (now (room .entry))) ⌝ }
 {
     let table = bases::entries::table();
     let mut tally = Tally {

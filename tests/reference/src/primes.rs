@@ -1,5 +1,5 @@
 //! Pseudocubes, the candidates in their order, primes, and the listing.
-//! Follows document 01, section "Primes".
+//! Follows document 01, section "Primes", and document 02, No. 6.
 //!
 //! A set of points of at most six variables is held as a number of 64 bits,
 //! bit p set when the set holds point p.
@@ -13,8 +13,11 @@ use std::sync::OnceLock;
 /// Most variables of a listing.
 pub const MOST_LISTED: usize = 6;
 
-/// Bytes of one record.
-pub const RECORD_LENGTH: usize = 8;
+/// Bytes of a record that tell the pseudocube: those of document 01.
+pub const CUBE_LENGTH: usize = 8;
+
+/// Bytes of one record: one more, for the number of on points.
+pub const RECORD_LENGTH: usize = CUBE_LENGTH + 1;
 
 /// A pseudocube: its least point, the reduced basis of its directions, and its
 /// points as a set.
@@ -181,14 +184,22 @@ pub fn primes(n: usize, on: &[u16], free: &[u16]) -> Vec<Pseudocube> {
     chosen.cloned().collect()
 }
 
-/// The record of a prime: degree, least point, basis vectors, the rest 0.
-pub fn record(cube: &Pseudocube) -> [u8; RECORD_LENGTH] {
+/// How many of the on points a pseudocube holds, asked point by point.
+pub fn on_points_in(on: u64, cube: &Pseudocube) -> usize {
+    let is_counted = |&point: &u16| on >> point & 1 == 1 && cube.members >> point & 1 == 1;
+    (0..64).filter(is_counted).count()
+}
+
+/// The record of a prime: degree, least point, basis vectors, the rest of the
+/// eight bytes 0; then the number of on points in it.
+pub fn record(on: u64, cube: &Pseudocube) -> [u8; RECORD_LENGTH] {
     let mut bytes = [0; RECORD_LENGTH];
     bytes[0] = cube.basis.len() as u8;
     bytes[1] = cube.least as u8;
     for (place, &vector) in cube.basis.iter().enumerate() {
         bytes[2 + place] = vector as u8;
     }
+    bytes[CUBE_LENGTH] = on_points_in(on, cube) as u8;
     bytes
 }
 
@@ -211,7 +222,7 @@ fn pass_candidates(
             if room.len() < start + RECORD_LENGTH {
                 break;
             }
-            room[start..start + RECORD_LENGTH].copy_from_slice(&record(candidate));
+            room[start..start + RECORD_LENGTH].copy_from_slice(&record(on, candidate));
             records += 1;
         }
         next_place += 1;

@@ -1,6 +1,6 @@
 -- `walk::pass` meets its contract: one law for each way that a candidate can go. Assumes nothing.
-use mathlib.Core.Path.{sym, ap, ap₂, _∙_}
-use mathlib.Core.List.{_∷_}
+use mathlib.Core.Path.{ap, ap₂, _∙_}
+use mathlib.Core.List.{[], _∷_, _++_}
 use Prim.Native.Nat.{_*_}
 use native.Mathlib.Nat.{pos-of-ne-zero}
 use native.Mathlib.Omega.{arith}
@@ -8,15 +8,14 @@ use lib.Pow.{pow-mono}
 use lib.ListN.{length}
 use lib.Seq.{sets, length-sets}
 use borrow.Author.Needs.{needs}
-use borrow.Author.Tests.{not-true, not-false}
 use denote.Ref.{now}
 use Rattle.cubes.specs.Records.{recordLength}
 use Rattle.bases.specs.Bases.{vectorsOf}
 use Rattle.walk.specs.declared.Tally.{Tally}
-use Rattle.masks.specs.Points.{primeBy}
+use Rattle.masks.specs.Points.{primeBy, recordBy}
 use Rattle.bases.specs.Entry.{candidateAt}
 use Rattle.walk.specs.Walk.{state}
-use Rattle.bases.proofs.Entry.{entry-record}
+use Rattle.masks.proofs.PrimeTest.{count-none, count-some, count-small, count-record}
 use Rattle.walk.proofs.Steps.{pass-spent, pass-off, pass-full, pass-write}
 use Rattle.walk.proofs.pass.Statement.{statement}
 use Rattle.walk.proofs.pass.Tie as tie
@@ -28,10 +27,10 @@ returns : tie.Need-returns
 returns c =
     let a = c .before .before .before .before .args in
     ap (λ (t : Tally). state t (now (a .room))) (c .stopping .ensures)
-    ∙ pass-spent (primeBy (a .n) (a .on) (a .free)) (candidateAt (a .d) (a .p) (a .entry)) (a .tally) (now (a .room)) (c .before .if1 .taken)
+    ∙ pass-spent (primeBy (a .n) (a .on) (a .free)) (recordBy (a .n) (a .on)) (candidateAt (a .d) (a .p) (a .entry)) (a .tally) (now (a .room)) (c .before .if1 .taken)
 
-is-prime-requires : tie.Need-is-prime-requires
-is-prime-requires c κs = let s = c .before .before .before in (s .pre .0, (s .pre .1 .0, s .pre .1 .1 .0))
+prime-count-requires : tie.Need-prime-count-requires
+prime-count-requires c κs = let s = c .before .before .before in (s .pre .0, (s .pre .1 .0, s .pre .1 .1 .0))
 
 passing-requires : tie.Need-passing-requires
 passing-requires c κs = search needs
@@ -39,10 +38,11 @@ passing-requires c κs = search needs
 returns-2 : tie.Need-returns-2
 returns-2 c =
     let i = c .before .before in
-    let a = i .before .before .before .before .args in
+    let s = i .before .before .before .before in
+    let a = s .args in
     ap (λ (t : Tally). state t (now (a .room))) (c .passing .ensures)
-    ∙ pass-off (primeBy (a .n) (a .on) (a .free)) (candidateAt (a .d) (a .p) (a .entry)) (a .tally) (now (a .room)) (i .before .if1 .left)
-    (sym (i .is-prime .ensures) ∙ not-true (i .is-prime .result) (c .before .if2 .taken))
+    ∙ pass-off (primeBy (a .n) (a .on) (a .free)) (recordBy (a .n) (a .on)) (candidateAt (a .d) (a .p) (a .entry)) (a .tally) (now (a .room)) (i .before .if1 .left)
+    (count-none (a .on) (a .free) (s .pre .1 .1 .0) (i .prime-count .result) (i .prime-count .ensures) (c .before .if2 .taken))
 
 mul-if3 : tie.Need-mul-if3
 mul-if3 c = search needs
@@ -56,16 +56,26 @@ stopping-requires-2 c κs = search needs
 returns-3 : tie.Need-returns-3
 returns-3 c =
     let i = c .before .before .before in
-    let a = i .before .before .before .before .args in
+    let s = i .before .before .before .before in
+    let a = s .args in
     ap (λ (t : Tally). state t (now (a .room))) (c .stopping2 .ensures)
-    ∙ pass-full (primeBy (a .n) (a .on) (a .free)) (candidateAt (a .d) (a .p) (a .entry)) (a .tally) (now (a .room)) (i .before .if1 .left)
-    (sym (i .is-prime .ensures) ∙ not-false (i .is-prime .result) (c .before .before .if2 .left)) (omega (arith, c .before .if3 .taken))
+    ∙ pass-full (primeBy (a .n) (a .on) (a .free)) (recordBy (a .n) (a .on)) (candidateAt (a .d) (a .p) (a .entry)) (a .tally) (now (a .room)) (i .before .if1 .left)
+    (count-some (a .on) (a .free) (s .pre .1 .1 .0) (i .prime-count .result) (i .prime-count .ensures) (c .before .before .if2 .left)) (omega (arith, c .before .if3 .taken))
 
 put-requires : tie.Need-put-requires
 put-requires c κs =
-    let s = c .before .before .before .before .before .before .before in
-    let k = s .pre .1 .1 .0 in
-    (omega (arith, c .before .if3 .left), (omega (arith, k .few, k .short), omega (arith, k .point, pow-mono (k .few))))
+    let i = c .before .before .before in
+    let s = i .before .before .before .before in
+    let k = s .pre .1 .1 .0 in (
+      omega (arith, c .before .if3 .left),
+      (
+        omega (arith, k .few, k .short),
+        (
+          omega (arith, k .point, pow-mono (k .few)),
+          omega (arith, count-small (s .args .on) (s .args .free) k (i .prime-count .result) (i .prime-count .ensures) (c .before .before .if2 .left)),
+        ),
+      ),
+    )
 
 writing-requires : tie.Need-writing-requires
 writing-requires c κs =
@@ -75,8 +85,9 @@ writing-requires c κs =
 same-length : tie.Need-same-length
 same-length c =
     let u = c .before .before .before in
-    let a = u .before .before .before .before .before .before .before .before .args in
-    ap length (u .put .ensures) ∙ length-sets (now (a .room)) (recordLength * a .tally .written) (a .d ∷ a .p ∷ vectorsOf 6 (a .entry))
+    let i = u .before .before .before .before in
+    let a = i .before .before .before .before .args in
+    ap length (u .put .ensures) ∙ length-sets (now (a .room)) (recordLength * a .tally .written) ((a .d ∷ a .p ∷ vectorsOf 6 (a .entry)) ++ (i .prime-count .result ∷ []))
 
 returns-4 : tie.Need-returns-4
 returns-4 c =
@@ -84,9 +95,12 @@ returns-4 c =
     let i = u .before .before .before .before in
     let s = i .before .before .before .before in
     let a = s .args in
-    ap₂ state (c .writing .ensures) (u .put .ensures ∙ ap (sets (now (a .room)) (recordLength * a .tally .written)) (entry-record (s .pre .1 .1 .0)))
-    ∙ pass-write (primeBy (a .n) (a .on) (a .free)) (candidateAt (a .d) (a .p) (a .entry)) (a .tally) (now (a .room)) (i .before .if1 .left)
-    (sym (i .is-prime .ensures) ∙ not-false (i .is-prime .result) (u .before .before .before .if2 .left)) (omega (arith, u .before .before .if3 .left))
+    let k = s .pre .1 .1 .0 in
+    let some = u .before .before .before .if2 .left in
+    ap₂ state (c .writing .ensures)
+    (u .put .ensures ∙ ap (sets (now (a .room)) (recordLength * a .tally .written)) (count-record (a .on) (a .free) k (i .prime-count .result) (i .prime-count .ensures) some))
+    ∙ pass-write (primeBy (a .n) (a .on) (a .free)) (recordBy (a .n) (a .on)) (candidateAt (a .d) (a .p) (a .entry)) (a .tally) (now (a .room)) (i .before .if1 .left)
+    (count-some (a .on) (a .free) k (i .prime-count .result) (i .prime-count .ensures) some) (omega (arith, u .before .before .if3 .left))
 
 pub pass-spec : {M : Type 1} → statement M
 pass-spec =
@@ -94,7 +108,7 @@ pass-spec =
     (tie.spec
     stopping-requires
     returns
-    is-prime-requires
+    prime-count-requires
     passing-requires
     returns-2
     mul-if3

@@ -1,4 +1,4 @@
--- `walk::put` meets its contract: eight stores, one after the other. Assumes nothing.
+-- `walk::put` meets its contract: nine stores, one after the other. Assumes nothing.
 use native.Mathlib.Numerals.{towards-suc}
 use lib.ListN.{length-set}
 use Rattle.bases.specs.Bases.{vectorsOf}
@@ -79,6 +79,15 @@ add-room-7 c = search needs
 slice-write-room-8 : tie.Need-slice-write-room-8
 slice-write-room-8 c = simp length-set (omega arith)
 
+cast-room-9 : tie.Need-cast-room-9
+cast-room-9 c = search needs
+
+add-room-8 : tie.Need-add-room-8
+add-room-8 c = search needs
+
+slice-write-room-9 : tie.Need-slice-write-room-9
+slice-write-room-9 c = simp length-set (omega arith)
+
 same-length : tie.Need-same-length
 same-length c = simp length-set
 
@@ -114,5 +123,8 @@ put-spec =
     cast-room-8
     add-room-7
     slice-write-room-8
+    cast-room-9
+    add-room-8
+    slice-write-room-9
     same-length
     returns)

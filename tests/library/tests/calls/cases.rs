@@ -9,6 +9,7 @@ use crate::form_points;
 use crate::form_rewrite;
 use crate::index;
 use crate::lent_calls;
+use crate::list_primes;
 use crate::read_table;
 use crate::tally::Tally;
 use crate::write_form;
@@ -19,6 +20,7 @@ use reference::index::Record;
 use reference::numbers::TableNumbers;
 use reference::numbers::{short_list, AnalysisNumbers, CompletionNumbers, FormNumbers};
 use reference::numbers::{ComparisonNumbers, FormPointsNumbers, IndexNumbers, RewriteNumbers};
+use reference::numbers::ListingNumbers;
 
 /// The fields of a case must be these, in order of name.
 fn assert_fields(case: &Case, call: &str, takes: &[&str], gives: &[&str]) {
@@ -300,6 +302,46 @@ fn write_form() {
             check_write_form(case, calls::write_form);
             check_write_form(case, |n, on, free, room| {
                 write_form::numbers(&lent_calls::write_form(n, on, free, room))
+            })
+        },
+    );
+}
+
+/// A listing call: its table, place, allowance and room.
+type ListingCall = fn(usize, &[u16], &[u16], usize, usize, &mut [u8]) -> ListingNumbers;
+
+fn check_list_primes(case: &Case, call: ListingCall) -> u8 {
+    let Case { takes, gives, .. } = case;
+    let expected = ListingNumbers {
+        refusal: gives.number("refusal"),
+        next_place: gives.number("next"),
+        passed: gives.number("passed"),
+        records: gives.number("records"),
+    };
+    let (on, free) = (takes.list("on"), takes.list("free"));
+    let (place, allowance) = (takes.number("place"), takes.number("allowance"));
+    let mut room = takes.bytes("room");
+    let found = call(takes.number("n"), &on, &free, place, allowance, &mut room);
+    assert_eq!((found, room), (expected, gives.bytes("room")), "{}", case.title);
+    expected.refusal
+}
+
+#[test]
+fn list_primes() {
+    let takes = ["allowance", "free", "n", "on", "place", "room"];
+    let gives = ["next", "passed", "place", "records", "refusal", "room"];
+    each_case(
+        "list primes, cases",
+        &[("06-list", 200), ("extra/06-list", 5)],
+        &[0, 1, 2, 3, 4, 5, 9],
+        |case| {
+            assert_fields(case, "list", &takes, &gives);
+            assert_eq!(case.gives.number::<usize>("place"), 0, "{}", case.title);
+            check_list_primes(case, calls::list_primes);
+            check_list_primes(case, |n, on, free, place, allowance, room| {
+                let (place, allowance) = (place as u64, allowance as u64);
+                let found = lent_calls::list_primes(n, on, free, place, allowance, room);
+                list_primes::numbers(&found)
             })
         },
     );

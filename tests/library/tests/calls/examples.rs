@@ -1,12 +1,13 @@
 //! The worked examples, as far as these calls answer them, with the answers that
 //! documents 01 and 02 print, and an index of P5's form. Follows document 01, section
-//! "Table of proved examples", and document 02, No. 4 and No. 5.
+//! "Table of proved examples", and document 02, No. 4 to No. 6.
 
 use crate::forms;
 use crate::lent_calls;
 use crate::stored;
 use glospruma::MAX_POINTS;
 use library::{Basis, Indexed, Listed, PointRecord, ShortList};
+use reference::primes::RECORD_LENGTH;
 
 const P5_ON: [u16; 10] = [4, 5, 6, 7, 9, 10, 12, 13, 14, 15];
 
@@ -103,10 +104,10 @@ fn p4_parity_of_three() {
     assert_eq!(found.equations, list(&[7]));
     assert_eq!(found.count, 1);
     assert_eq!(room, [1, 9, 9]);
-    let mut room = [9; 9];
+    let mut room = [9; RECORD_LENGTH + 1];
     let found = lent_calls::list_primes(3, &[1, 2, 4, 7], &[], 0, u64::MAX, &mut room);
     assert_eq!(found, listed(51, 51, 1));
-    assert_eq!(room, [2, 1, 3, 5, 0, 0, 0, 0, 9]);
+    assert_eq!(room, [2, 1, 3, 5, 0, 0, 0, 0, 4, 9]);
     let form = [0x4E, 3, 0x50, 0x58, 1, 7, 0, 0x45, 1, 0];
     assert_eq!(form_true_at(3, &[1, 2, 4, 7], &[], &[1, 2, 4, 7]), form);
 }
@@ -200,15 +201,15 @@ fn p5_index() {
 
 #[test]
 fn p6_five_primes() {
-    let mut room = [9; 41];
+    let mut room = [9; 5 * RECORD_LENGTH + 1];
     let found = lent_calls::list_primes(3, &[2, 3, 5, 6, 7], &[], 0, u64::MAX, &mut room);
     assert_eq!(found, listed(51, 51, 5));
-    let records: [[u8; 8]; 5] = [
-        [2, 2, 1, 4, 0, 0, 0, 0],
-        [1, 2, 7, 0, 0, 0, 0, 0],
-        [1, 3, 6, 0, 0, 0, 0, 0],
-        [1, 5, 2, 0, 0, 0, 0, 0],
-        [1, 5, 3, 0, 0, 0, 0, 0],
+    let records: [[u8; RECORD_LENGTH]; 5] = [
+        [2, 2, 1, 4, 0, 0, 0, 0, 4],
+        [1, 2, 7, 0, 0, 0, 0, 0, 2],
+        [1, 3, 6, 0, 0, 0, 0, 0, 2],
+        [1, 5, 2, 0, 0, 0, 0, 0, 2],
+        [1, 5, 3, 0, 0, 0, 0, 0, 2],
     ];
     assert_eq!(room, [&records.concat()[..], &[9]].concat()[..]);
     let points = [2, 3, 5, 6, 7];

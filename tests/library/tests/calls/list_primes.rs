@@ -1,5 +1,6 @@
 //! The listing call compared with the reference, alone and in whole lists of
-//! calls. Follows document 01, sections "Primes" and "Refusal numbers".
+//! calls. Follows document 01, sections "Primes" and "Refusal numbers", and
+//! document 02, No. 6.
 
 use crate::lent::Lent;
 use crate::lent_calls;
@@ -12,7 +13,7 @@ use library::Listed;
 use reference::calls;
 use reference::generate::{self, Generator};
 use reference::numbers::ListingNumbers;
-use reference::primes::{self, RECORD_LENGTH};
+use reference::primes::{self, CUBE_LENGTH, RECORD_LENGTH};
 use reference::table::Table;
 
 /// Numbers of candidates for n from 1 to 6, as document 01 prints them.
@@ -119,7 +120,7 @@ impl Primes {
         for (place, cube) in candidates.iter().enumerate() {
             if primes::is_prime(*n, sets.0, sets.1, cube) {
                 places.push(place as u64);
-                records.extend(primes::record(cube));
+                records.extend(primes::record(sets.0, cube));
             }
         }
         Primes {
@@ -166,7 +167,7 @@ impl Primes {
         let mut lengths = vec![0, 1, RECORD_LENGTH - 1, RECORD_LENGTH];
         let shorter = [RECORD_LENGTH, 1].map(|bytes| exact.saturating_sub(bytes));
         lengths.extend(shorter);
-        lengths.extend([0, 1, 7, 8, 500].map(|bytes| exact + bytes));
+        lengths.extend([0, 1, RECORD_LENGTH - 1, RECORD_LENGTH, 500].map(|bytes| exact + bytes));
         lengths.sort_unstable();
         lengths.dedup();
         for length in lengths {
@@ -407,14 +408,15 @@ fn candidates_as_their_own_primes() {
         for (place, cube) in some(candidates.iter().enumerate().step_by(by)) {
             let table = LentTable::new(n, &primes::points_of(cube.members), &[]);
             let (at, end) = (place as u64, ENDS[n - 1]);
-            let record = primes::record(cube).to_vec();
-            let whole = table.call(&mut tally, (0, u64::MAX, 8));
+            let record = primes::record(cube.members, cube).to_vec();
+            assert_eq!(usize::from(record[CUBE_LENGTH]), 1 << cube.basis.len());
+            let whole = table.call(&mut tally, (0, u64::MAX, RECORD_LENGTH));
             assert_eq!(whole, (listed(end, end, 1), record.clone()));
-            let before = table.call(&mut tally, (0, u64::MAX, 7));
+            let before = table.call(&mut tally, (0, u64::MAX, RECORD_LENGTH - 1));
             assert_eq!(before, (listed(at, at, 0), vec![]));
-            let alone = table.call(&mut tally, (at, 1, 9));
+            let alone = table.call(&mut tally, (at, 1, RECORD_LENGTH + 1));
             assert_eq!(alone, (listed(at + 1, 1, 1), record));
-            let after = table.call(&mut tally, (at + 1, u64::MAX, 9));
+            let after = table.call(&mut tally, (at + 1, u64::MAX, RECORD_LENGTH + 1));
             assert_eq!(after, (listed(end, end - at - 1, 0), vec![]));
         }
     }
@@ -431,7 +433,7 @@ fn free_points_alone() {
         for free_percent in [50, 100, 0, 10, 30, 70, 90] {
             let (_, on, free) = generate::random_table(&mut generator, n, 0, free_percent);
             let table = LentTable::new(n, &on, &free);
-            for length in [0, 7, 8, 100].into_iter() {
+            for length in [0, RECORD_LENGTH - 1, RECORD_LENGTH, 100].into_iter() {
                 let found = table.call(&mut tally, (0, u64::MAX, length));
                 assert_eq!(found, (listed(end, end, 0), vec![]));
             }
@@ -451,7 +453,7 @@ fn the_end_and_beyond() {
         for on in [&[], &everywhere[..1], &everywhere] {
             let table = LentTable::new(n, on, &[]);
             for allowance in [u64::MAX, 0, 1].into_iter() {
-                for length in [0, 8, 16].into_iter() {
+                for length in [0, RECORD_LENGTH, 2 * RECORD_LENGTH].into_iter() {
                     let mut call = |place| table.call(&mut tally, (place, allowance, length));
                     assert_eq!(call(end), (listed(end, 0, 0), vec![]));
                     let beyond = [end + 1, end + (1 << 32), u64::MAX - 1, u64::MAX];
@@ -472,9 +474,9 @@ fn faulty_lists() {
         let table = LentTable::new(n, &on, &free);
         let end = ENDS[n.clamp(1, 6) - 1];
         for call in [
-            (0, 3, 24),
-            (end.min(11), 1, 8),
-            (end + 1, 0, 7),
+            (0, 3, 3 * RECORD_LENGTH),
+            (end.min(11), 1, RECORD_LENGTH),
+            (end + 1, 0, RECORD_LENGTH - 1),
             (u64::MAX, 9, 0),
         ] {
             compare(&mut tally, &table, call);
@@ -483,7 +485,7 @@ fn faulty_lists() {
     for (n, on, free, refusal) in lists::ORDERED {
         let table = LentTable::new(n, on, free);
         for place in [0, 26_388, u64::MAX] {
-            let found = table.call(&mut tally, (place, 1, 24));
+            let found = table.call(&mut tally, (place, 1, 3 * RECORD_LENGTH));
             assert_eq!(found, (refused(refusal), vec![]));
         }
     }
@@ -517,45 +519,131 @@ fn order_of_refusals() {
     }
 }
 
+/// The bytes of a record with this degree, least point, basis and count.
+fn record(degree: u8, least: u8, basis: &[u8], count: u8) -> Vec<u8> {
+    let mut bytes = vec![0; RECORD_LENGTH];
+    bytes[..2].copy_from_slice(&[degree, least]);
+    bytes[2..2 + basis.len()].copy_from_slice(basis);
+    bytes[CUBE_LENGTH] = count;
+    bytes
+}
+
+/// Makes a call with all candidates allowed and a room of so many bytes, which must
+/// be as lent behind the records: its numbers, and the records.
+fn list_all((n, on, free): (usize, &[u16], &[u16]), place: u64, length: usize) -> (Listed, Vec<u8>) {
+    let mut room = vec![7; length];
+    let found = lent_calls::list_primes(n, on, free, place, u64::MAX, &mut room);
+    let behind = room.split_off(RECORD_LENGTH * found.records);
+    assert!(behind.iter().all(|&byte| byte == 7));
+    (found, room)
+}
+
 /// P6 has five primes; a full room goes on to the end behind the last of them,
 /// and one byte less stops before it.
 #[test]
 fn rooms_around_all_records() {
-    let list = |place, allowance, length| {
-        let mut room = vec![7; length];
-        let found = lent_calls::list_primes(3, &P6_ON, &[], place, allowance, &mut room);
-        assert!(room[8 * found.records..].iter().all(|&byte| byte == 7));
-        (found, room)
-    };
+    let p6: (usize, &[u16], &[u16]) = (3, &P6_ON, &[]);
+    let list = |place, length| list_all(p6, place, length).0;
     let is_first = |cube: &primes::Pseudocube| cube.least == 2 && cube.basis == [1, 4];
     let is_last = |cube: &primes::Pseudocube| cube.least == 5 && cube.basis == [3];
     let candidates = primes::candidates(3);
     let first = candidates.iter().position(is_first).expect("a candidate") as u64;
     let last = candidates.iter().position(is_last).expect("a candidate") as u64;
-    for length in 0..8 {
-        assert_eq!(list(0, u64::MAX, length).0, listed(first, first, 0));
-        assert_eq!(list(first, u64::MAX, length).0, listed(first, 0, 0));
+    for length in 0..RECORD_LENGTH {
+        assert_eq!(list(0, length), listed(first, first, 0));
+        assert_eq!(list(first, length), listed(first, 0, 0));
     }
-    assert_eq!(list(0, u64::MAX, 40).0, listed(51, 51, 5));
-    assert_eq!(list(0, 51, 40).0, listed(51, 51, 5));
-    assert_eq!(list(0, 50, 40).0, listed(50, 50, 5));
-    assert_eq!(list(0, u64::MAX, 39).0, listed(last, last, 4));
-    assert_eq!(list(last, u64::MAX, 7).0, listed(last, 0, 0));
-    let (found, room) = list(last, u64::MAX, 8);
-    assert_eq!(found, listed(51, 51 - last, 1));
-    assert_eq!(room, [1, 5, 3, 0, 0, 0, 0, 0]);
-    assert_eq!(list(last + 1, u64::MAX, 0).0, listed(51, 50 - last, 0));
-    assert_eq!(list(20, 0, 40).0, listed(20, 0, 0));
-    assert_eq!(list(51, u64::MAX, 40).0, listed(51, 0, 0));
-    assert_eq!(list(52, 0, 40).0, refused(9));
+    let five = 5 * RECORD_LENGTH;
+    assert_eq!(list(0, five), listed(51, 51, 5));
+    assert_eq!(list(0, five - 1), listed(last, last, 4));
+    assert_eq!(list(last, RECORD_LENGTH - 1), listed(last, 0, 0));
+    let found = list_all(p6, last, RECORD_LENGTH);
+    assert_eq!(found, (listed(51, 51 - last, 1), record(1, 5, &[3], 2)));
+    assert_eq!(list(last + 1, 0), listed(51, 50 - last, 0));
+    assert_eq!(list(51, five), listed(51, 0, 0));
+    let with_allowance = |place, allowance| {
+        lent_calls::list_primes(3, &P6_ON, &[], place, allowance, &mut vec![7; five])
+    };
+    assert_eq!(with_allowance(0, 51), listed(51, 51, 5));
+    assert_eq!(with_allowance(0, 50), listed(50, 50, 5));
+    assert_eq!(with_allowance(20, 0), listed(20, 0, 0));
+    assert_eq!(with_allowance(52, 0), refused(9));
+}
+
+/// Rooms of a byte less than a record, of one and of two, and each a byte less or
+/// more (document 02, No. 6): a listing stops where fewer bytes than a record are
+/// left for a prime, and bytes left over change nothing.
+#[test]
+fn rooms_around_a_record() {
+    let p6: (usize, &[u16], &[u16]) = (3, &P6_ON, &[]);
+    let (_, all) = list_all(p6, 0, 5 * RECORD_LENGTH);
+    let stops: Vec<Listed> = (0..3).map(|room| list_all(p6, 0, room * RECORD_LENGTH).0).collect();
+    assert_eq!(stops.iter().map(|found| found.records).collect::<Vec<usize>>(), [0, 1, 2]);
+    for length in 0..3 * RECORD_LENGTH {
+        let expected = stops[length / RECORD_LENGTH];
+        let records = all[..RECORD_LENGTH * expected.records].to_vec();
+        assert_eq!(list_all(p6, 0, length), (expected, records), "{length} bytes");
+    }
 }
 
 /// The table as given is listed, with its free points, and not a completed
-/// function.
+/// function; free points don't count.
 #[test]
 fn the_table_as_given() {
-    let mut room = [7; 16];
-    let found = lent_calls::list_primes(2, &[0], &[1, 2], 0, u64::MAX, &mut room);
-    assert_eq!(found, listed(11, 11, 2));
-    assert_eq!(room, [1, 0, 1, 0, 0, 0, 0, 0, 1, 0, 2, 0, 0, 0, 0, 0]);
+    let found = list_all((2, &[0], &[1, 2]), 0, 2 * RECORD_LENGTH);
+    let records = [record(1, 0, &[1], 1), record(1, 0, &[2], 1)].concat();
+    assert_eq!(found, (listed(11, 11, 2), records));
+}
+
+/// The smallest and the largest count: of a table that is free but for one on point,
+/// which is the whole space with that point, and of one that is on everywhere.
+#[test]
+fn counts_of_whole_spaces() {
+    for n in 1..=6 {
+        let (end, size) = (ENDS[n - 1], 1u16 << n);
+        let basis: Vec<u8> = (0..n).map(|place| 1 << place).collect();
+        let everywhere: Vec<u16> = (0..size).collect();
+        let whole = |count| (listed(end, end, 1), record(n as u8, 0, &basis, count));
+        assert_eq!(list_all((n, &everywhere, &[]), 0, RECORD_LENGTH), whole(size as u8));
+        for on in 0..size {
+            let free: Vec<u16> = (0..size).filter(|&point| point != on).collect();
+            assert_eq!(list_all((n, &[on], &free), 0, RECORD_LENGTH), whole(1));
+        }
+    }
+}
+
+/// With room for as many records, of eight bytes before and of nine now and whatever
+/// bytes are left over, a call goes as far as document 01's rule and writes its
+/// bytes first. The rule before is followed here step by step.
+#[test]
+fn as_before_but_for_the_count() {
+    let mut generator = Generator::new(169);
+    let mut tally = Tally::new("list primes, as before but for the count");
+    for (n, on, free) in some(tables::random_tables_of(1..=5, 170)) {
+        let sets = (primes::set_of(&on), primes::set_of(&free));
+        let lent = LentTable::new(n, &on, &free);
+        let candidates = primes::candidates(n);
+        let place = generator.below(candidates.len() + 1);
+        let allowance = generator.below(candidates.len() + 2);
+        let before = generator.below(12 * CUBE_LENGTH);
+        let length = before / CUBE_LENGTH * RECORD_LENGTH + generator.below(RECORD_LENGTH);
+        let (mut next, mut left, mut bytes) = (place, before, Vec::new());
+        for cube in candidates.iter().skip(place).take(allowance) {
+            if primes::is_prime(n, sets.0, sets.1, cube) {
+                if left < CUBE_LENGTH {
+                    break;
+                }
+                left -= CUBE_LENGTH;
+                bytes.extend_from_slice(&primes::record(sets.0, cube)[..CUBE_LENGTH]);
+            }
+            next += 1;
+        }
+        let call = (place as u64, allowance as u64, length);
+        let (found, records) = lent.call(&mut tally, call);
+        let count = bytes.len() / CUBE_LENGTH;
+        assert_eq!(found, listed(next as u64, (next - place) as u64, count));
+        let cubes = records.chunks_exact(RECORD_LENGTH).flat_map(|record| &record[..CUBE_LENGTH]);
+        assert_eq!(cubes.copied().collect::<Vec<u8>>(), bytes);
+    }
+    tally.finish(&[0]);
 }

@@ -3,7 +3,7 @@
 //! no list of all primes is made. Follows document 01, section "The written form".
 
 use super::bases::{bases, Entry};
-use super::sets::{is_prime, moved};
+use super::sets::{moved, prime_count};
 
 /// A prime: its degree, its least point and its basis.
 #[derive(Clone, Copy)]
@@ -38,7 +38,7 @@ fn first_of_degree(on: u64, kept: usize, degree: usize, point: u16) -> Option<Pr
         let clear = |rest: u16, &vector: &u8| rest.min(rest ^ u16::from(vector));
         let least = vectors.iter().fold(point, clear);
         let stays = best.is_some_and(|found| found.least <= least);
-        if !stays && is_prime(on, on, vectors, u64::from(least)) {
+        if !stays && prime_count(on, on, vectors, u64::from(least)) > 0 {
             best = Some(Prime {
                 degree,
                 least,

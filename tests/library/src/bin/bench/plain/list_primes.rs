@@ -1,13 +1,14 @@
 //! The listing call in plain Rust: all cosets of a basis tested at once; whole
-//! degrees before the place passed at once. Follows document 01, section "Primes".
+//! degrees before the place passed at once. Follows document 01, section "Primes",
+//! and document 02, No. 6.
 
 use super::bases::{bases, MOST_VARIABLES};
-use super::sets::{is_prime, set_of};
+use super::sets::{prime_count, set_of};
 use super::table::checked;
 use library::Listed;
 use std::sync::OnceLock;
 
-const RECORD_LENGTH: usize = 8;
+const RECORD_LENGTH: usize = 9;
 
 /// Numbers of candidates for n from 0 to 6.
 const ENDS: [u64; 7] = [1, 3, 11, 51, 307, 2_451, 26_387];
@@ -55,14 +56,16 @@ fn walk(
                 if passed == allowance {
                     return (passed, records);
                 }
-                if is_prime(on, inside, &entry.vectors[..degree], point) {
+                let count = prime_count(on, inside, &entry.vectors[..degree], point);
+                if count > 0 {
                     let start = RECORD_LENGTH * records;
                     let Some(record) = room.get_mut(start..start + RECORD_LENGTH) else {
                         return (passed, records);
                     };
                     record[0] = degree as u8;
                     record[1] = point as u8;
-                    record[2..].copy_from_slice(&entry.vectors);
+                    record[2..RECORD_LENGTH - 1].copy_from_slice(&entry.vectors);
+                    record[RECORD_LENGTH - 1] = count as u8;
                     records += 1;
                 }
                 passed += 1;

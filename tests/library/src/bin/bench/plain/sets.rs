@@ -26,16 +26,15 @@ pub fn moved(set: u64, vector: u8) -> u64 {
     turned
 }
 
-/// Whether the coset of a point lies inside on plus free as the only one of its
-/// basis, and holds an on point.
-pub fn is_prime(on: u64, inside: u64, vectors: &[u8], point: u64) -> bool {
-    let fold_and = |set: u64, &vector: &u8| set & moved(set, vector);
-    let every = vectors.iter().fold(inside, fold_and);
+/// The number of on points in the coset of a point, if it lies inside on plus free as
+/// the only one of its basis; else 0.
+pub fn prime_count(on: u64, inside: u64, vectors: &[u8], point: u64) -> u32 {
+    let fold = |set: u64, &vector: &u8| set & moved(set, vector);
+    let every = vectors.iter().fold(inside, fold);
     if every >> point & 1 == 0 || every.count_ones() != 1 << vectors.len() {
-        return false;
+        return 0;
     }
-    let fold_or = |set: u64, &vector: &u8| set | moved(set, vector);
-    vectors.iter().fold(on, fold_or) >> point & 1 == 1
+    (every & on).count_ones()
 }
 
 /// The set of the listed points.
