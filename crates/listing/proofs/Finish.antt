@@ -10,7 +10,7 @@ use borrow.Author.Tests.{ne-eqb}
 use Rattle.gf2.specs.Finite.{Mem, holds}
 use Rattle.gf2.proofs.Finite.{drop-mem}
 use Rattle.cubes.specs.Cubes.{Candidate, degree}
-use Rattle.cubes.specs.Candidates.{candidates, candidatesFrom}
+use Rattle.cubes.specs.Candidates.{candidates}
 use Rattle.cubes.specs.Primes.{isPrime}
 use Rattle.cubes.specs.Records.{maxListed, recordLength, recordOf}
 use Rattle.cubes.specs.Listing.{Call, primeOf, recordIn, recordsOf, listingBy, listing, ListingRule, listingFault, Answer, listingRefused, listingAnswer, listingAfter}
@@ -19,8 +19,10 @@ use Rattle.cubes.proofs.Candidates.{candidate-is}
 use Rattle.cubes.proofs.Listing.{record-length, records-length, answer-on, answer-off, room-on, room-off, call-rule, found-small, accepted-place}
 use Rattle.counts.proofs.Counts.{count-most}
 use Rattle.listing.specs.declared.Start.{Start}
+use Rattle.listing.specs.declared.FirstPoint.{FirstPoint}
 use Rattle.masks.specs.Points.{MaskOf}
-use Rattle.listing.specs.Starts.{StartsAt}
+use Rattle.listing.specs.Starts.{StartsAt, PointAt}
+use Rattle.walk.specs.Places.{fromPoint}
 use Rattle.walk.specs.Walk.{starting, State, state, walk, walkBy}
 use Rattle.listing.specs.Answers.{tableOf, callOf}
 use Rattle.listing.proofs.Ends.{EndsAs, walk-is}
@@ -51,8 +53,9 @@ pub record Finished (n : ℕ) (on free : List ℕ) (place allowance : ℕ) (lent
   pub room : u .room ≡ listingAfter (callOf n on free place allowance lent)
 
 module _ (n : ℕ) (on free : List ℕ) (place allowance : ℕ) (room : List ℕ) (e : listingFault (callOf n on free place allowance room) ≡ 0)
-    (start : Start) (s : StartsAt n place start) (onMask freeMask : ℕ) (a : MaskOf on onMask) (b : MaskOf free freeMask)
-    (u : State) (w : u ≡ walkBy n onMask freeMask (drop (start .skip) (candidatesFrom n (start .degree))) (state (starting allowance) room)) where
+    (start : Start) (s : StartsAt n place start) (first : FirstPoint) (f : PointAt n (start .degree) (start .skip) first)
+    (onMask freeMask : ℕ) (a : MaskOf on onMask) (b : MaskOf free freeMask)
+    (u : State) (w : u ≡ walkBy n onMask freeMask (drop (first .skip) (fromPoint n (start .degree) (first .point))) (state (starting allowance) room)) where
   this : Call
   this = callOf n on free place allowance room
 
@@ -62,8 +65,8 @@ module _ (n : ℕ) (on free : List ℕ) (place allowance : ℕ) (room : List ℕ
   -- The walk goes over the candidates from the place on.
   went-on : u ≡ walk (primeOf (tableOf n on free)) (recordIn (tableOf n on free)) (drop place (candidates n)) (state (starting allowance) room)
   went-on =
-      w ∙ ap (λ (f : List Candidate → State → State). f (drop (start .skip) (candidatesFrom n (start .degree))) (state (starting allowance) room)) (masks-walk n on free onMask freeMask a b)
-      ∙ ap (λ l. walk (primeOf (tableOf n on free)) (recordIn (tableOf n on free)) l (state (starting allowance) room)) (sym (s .same))
+      w ∙ ap (λ (g : List Candidate → State → State). g (drop (first .skip) (fromPoint n (start .degree) (first .point))) (state (starting allowance) room)) (masks-walk n on free onMask freeMask a b)
+      ∙ ap (λ l. walk (primeOf (tableOf n on free)) (recordIn (tableOf n on free)) l (state (starting allowance) room)) (sym (s .same ∙ f .same))
 
   -- It ends as the listing rule says.
   ends : EndsAs (recordIn (tableOf n on free)) allowance 0 room (listing this) u
@@ -84,13 +87,13 @@ module _ (n : ℕ) (on free : List ℕ) (place allowance : ℕ) (room : List ℕ
   unfolding this recordsOf
   finish =
       let k = sound-call n on free place allowance room e in
-      let f = sound-few n on free place allowance room e in
+      let few = sound-few n on free place allowance room e in
       let l = recordsOf (tableOf n on free) (listing this .primes) in
       let v : u .tally .written ≡ length (listing this .primes) = omega (arith, ends .written) in
       let q : recordLength * (0 + length (listing this .primes)) ≡ length l = omega (arith, records-length (tableOf n on free) (listing this .primes) (found-small recordLength this k)) in
       record {
         left = omega (arith, ends .left);
-        fits = omega (arith, went, rule .along, length-drop place (candidates n), accepted-place this k, count-most n f);
+        fits = omega (arith, went, rule .along, length-drop place (candidates n), accepted-place this k, count-most n few);
         numbers = ap₂ (counted place) went v ∙ sym (answer-on recordLength this k);
         room = ends .room ∙ ap (λ (k : ℕ). l ++ drop k room) q ∙ sym (room-on recordLength this (recordIn (tableOf n on free)) k);
       }

@@ -7,7 +7,7 @@ ghost use lib.ListN.{length};
 ghost use Rattle.cubes.specs.Candidates.{candidatesOf, candidateCount};
 ghost use Rattle.cubes.specs.Records.{maxListed};
 ghost use Rattle.cubes.specs.Listing.{listingFault, listingAnswer, listingAfter};
-ghost use Rattle.listing.specs.Starts.{StartsAt};
+ghost use Rattle.listing.specs.Starts.{StartsAt, PointAt};
 ghost use Rattle.listing.specs.Answers.{callOf, numbersOf};
 use cubes::MAX_LISTED;
 use table::PLACE_FAULT;
@@ -90,7 +90,7 @@ fn degree_count(n: usize, d: usize) -> u64
     DEGREE_COUNTS[n * 7 + d]
 }
 
-// The start of a listing at a place: whole degrees before the place are passed at once.
+// The degree of a listing at a place: whole degrees before the place are passed at once.
 fn start_at(n: usize, place: u64) -> Start
     requires { ⌜ n ≤ maxListed ⌝ }
     ensures { λ r. ⌜ StartsAt n place r ⌝ }
@@ -106,6 +106,33 @@ fn start_at(n: usize, place: u64) -> Start
         degree -= 1;
     }
     Start { degree, skip }
+}
+
+// The first least point of a listing, and how many candidates of its degree from that point on are behind it.
+pub struct FirstPoint {
+    pub point: usize,
+    pub skip: u64,
+}
+
+// The point of a listing in its degree: whole points before it are passed at once, too.
+fn point_at(n: usize, degree: usize, skip: u64) -> FirstPoint
+    requires { ⌜ n ≤ maxListed ⌝ }
+    requires { ⌜ degree ≤ n ⌝ }
+    ensures { λ r. ⌜ PointAt n degree skip r ⌝ }
+{
+    let counts = point_counts::table();
+    let last = (1 << n) - 1;
+    let mut point = 0;
+    let mut left = skip;
+    while point < last {
+        let count = point_counts::point_count(&counts, n, degree, point);
+        if left < count {
+            return FirstPoint { point, skip: left };
+        }
+        left -= count;
+        point += 1;
+    }
+    FirstPoint { point, skip: left }
 }
 
 // The refusal of a listing call, or 0: those of the table, then too many variables, then a place above the number of candidates.
@@ -158,12 +185,14 @@ pub fn list_primes(
     let on_mask = masks::points::mask_of(on);
     let free_mask = masks::points::mask_of(free);
     let start = start_at(n, place);
+    let first = point_at(n, start.degree, start.skip);
     let tally = walk::walk(
         on_mask,
         free_mask,
         n,
         start.degree,
-        start.skip,
+        first.point as u64,
+        first.skip,
         allowance,
         &mut *room,
     );

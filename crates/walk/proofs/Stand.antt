@@ -1,18 +1,17 @@
 -- Where a walk over the table of bases stands, and each way through a turn of its loop as one law.
 use mathlib.Core.Path.{_≡_, refl, sym, ap, ap₂, _∙_, subst}
 use mathlib.Core.Bool.{true, false}
-use mathlib.Core.List.{List, [], _∷_, _++_, map, flatMap, append-assoc, append-nil}
+use mathlib.Core.List.{List, _∷_, _++_, map}
 use Prim.Native.Nat.{ℕ, zero, suc, _+_, _-_, _^_, _≤_, _<_}
-use native.Mathlib.Decide.{ℕ-discrete}
 use native.Mathlib.Numerals.{add-one}
 use native.Mathlib.Omega.{arith}
 use lib.Pow.{pow-pos, pow-mono}
-use lib.ListN.{length, getD, drop, length-append, List·getD-append, drop-of-length-le}
-use lib.Seq.{drop-nil, drop-cons, slice-empty, getD-append-seam}
-use Rattle.gf2.specs.Finite.{Mem, select}
+use lib.ListN.{length, getD, drop}
+use lib.Seq.{drop-nil, slice-empty}
+use Rattle.gf2.specs.Finite.{Mem}
 use Rattle.cubes.specs.Lists.{keep}
 use Rattle.cubes.specs.Cubes.{Candidate}
-use Rattle.cubes.specs.Candidates.{points, candidatesAt, candidatesOf, candidatesFrom}
+use Rattle.cubes.specs.Candidates.{candidatesFrom}
 use Rattle.bases.specs.Entries.{entries}
 use Rattle.bases.specs.Bases.{entryCount, start, stop, entriesOf, takesPoint}
 use Rattle.bases.proofs.Table.{entries-at}
@@ -21,75 +20,40 @@ use Rattle.walk.specs.declared.Tally.{Tally}
 use Rattle.masks.specs.Points.{primeBy, recordBy}
 use Rattle.bases.specs.Entry.{candidateAt, EntryAt}
 use Rattle.bases.proofs.Bounds.{bounds, entry-mem}
-use Rattle.walk.specs.Places.{placed, FirstTaken}
+use Rattle.walk.specs.Places.{lower, fromPoint, placed, FirstTaken}
 use Rattle.walk.specs.Walk.{State, state, walk, passBy, walkBy}
+use Rattle.walk.proofs.Points.{point-first, point-cons, point-beyond}
 use Rattle.walk.proofs.Rows.{placed-taken}
 use Rattle.walk.proofs.Steps.{Kept, pass-kept, walk-on, walk-stop}
 
--- ---- the points
-
-points-length : (k : ℕ) → length (select (λ p. true) k) ≡ k
-unfolding select
-points-length zero = refl
-points-length (suc k) = omega (arith, length-append (select (λ p. true) k) (k ∷ []), points-length k)
-
-point-at : (k p : ℕ) → p < k → getD (select (λ p. true) k) p 0 ≡ p
-unfolding select
-point-at zero p h = absurd (omega arith)
-point-at (suc k) p h = go (ℕ-discrete p k) (point-at k p)
-  where
-    go : Dec (p ≡ k) → (p < k → getD (select (λ p. true) k) p 0 ≡ p) → getD (select (λ p. true) k ++ (k ∷ [])) p 0 ≡ p
-    go (yes e) f = ap (λ (z : ℕ). getD (select (λ p. true) k ++ (k ∷ [])) z 0) (e ∙ sym (points-length k)) ∙ getD-append-seam (select (λ p. true) k) k [] 0 ∙ sym e
-    go (no m) f = List·getD-append (select (λ p. true) k) (k ∷ []) 0 p (omega (arith, points-length k)) ∙ f (omega arith)
-
-points-cons : (n p : ℕ) → p < 2 ^ n → drop p (points n) ≡ p ∷ drop (suc p) (points n)
-points-cons n p h = drop-cons (points n) p 0 (omega (arith, points-length (2 ^ n))) ∙ ap (λ (z : ℕ). z ∷ drop (suc p) (points n)) (point-at (2 ^ n) p h)
-
 -- ---- what is ahead
-
--- The candidates of less than degree d.
-unfoldable pub lower : ℕ → ℕ → List Candidate
-lower n zero = []
-lower n (suc d) = candidatesFrom n d
 
 -- The candidates from the entry at place i, with point p and degree d, on.
 unfoldable pub ahead : ℕ → ℕ → ℕ → ℕ → List Candidate
-ahead n d p i = placed n d p i (flatMap (candidatesAt n d) (drop (suc p) (points n)) ++ lower n d)
+ahead n d p i = placed n d p i (fromPoint n d (suc p))
 
-ahead-from : (n d p : ℕ) → n ≤ 6 → d ≤ 6 → p < 2 ^ n → flatMap (candidatesAt n d) (drop p (points n)) ++ lower n d ≡ ahead n d p (start d)
-unfolding ahead flatMap entriesOf
-ahead-from n d p hn hd h =
-    ap (λ l. flatMap (candidatesAt n d) l ++ lower n d) (points-cons n p h)
-    ∙ append-assoc (candidatesAt n d p) (flatMap (candidatesAt n d) (drop (suc p) (points n))) (lower n d)
-    ∙ ap (λ l. l ++ (flatMap (candidatesAt n d) (drop (suc p) (points n)) ++ lower n d)) (entries-at n d p hn hd)
-
-from-lower : (n d : ℕ) → candidatesFrom n d ≡ candidatesOf n d ++ lower n d
-unfolding candidatesFrom lower
-from-lower n zero = sym (append-nil (candidatesOf n 0))
-from-lower n (suc d) = refl
+ahead-from : (n d p : ℕ) → n ≤ 6 → d ≤ 6 → p < 2 ^ n → fromPoint n d p ≡ ahead n d p (start d)
+unfolding ahead entriesOf
+ahead-from n d p hn hd h = point-cons n d p h ∙ ap (λ l. l ++ fromPoint n d (suc p)) (entries-at n d p hn hd)
 
 -- A degree begins with its first point and entry.
-pub ahead-degree : (n d : ℕ) → n ≤ 6 → d ≤ 6 → candidatesFrom n d ≡ ahead n d 0 (start d)
-unfolding candidatesOf
-ahead-degree n d hn hd = from-lower n d ∙ ahead-from n d 0 hn hd (pow-pos n)
+ahead-degree : (n d : ℕ) → n ≤ 6 → d ≤ 6 → candidatesFrom n d ≡ ahead n d 0 (start d)
+ahead-degree n d hn hd = point-first n d ∙ ahead-from n d 0 hn hd (pow-pos n)
 
-ahead-done : (n d p : ℕ) → ahead n d p (stop d) ≡ flatMap (candidatesAt n d) (drop (suc p) (points n)) ++ lower n d
+ahead-done : (n d p : ℕ) → ahead n d p (stop d) ≡ fromPoint n d (suc p)
 unfolding ahead keep
-ahead-done n d p =
-    ap (λ l. map (candidateAt d p) (keep (takesPoint n p) l) ++ (flatMap (candidatesAt n d) (drop (suc p) (points n)) ++ lower n d)) (slice-empty (stop d) entries)
+ahead-done n d p = ap (λ l. map (candidateAt d p) (keep (takesPoint n p) l) ++ fromPoint n d (suc p)) (slice-empty (stop d) entries)
 
 ahead-last : (n d p : ℕ) → 2 ^ n ≤ suc p → ahead n d p (stop d) ≡ lower n d
-unfolding flatMap
-ahead-last n d p h =
-    ahead-done n d p ∙ ap (λ l. flatMap (candidatesAt n d) l ++ lower n d) (drop-of-length-le (points n) {i = suc p} (omega (arith, points-length (2 ^ n))))
+ahead-last n d p h = ahead-done n d p ∙ point-beyond n d (suc p) h
 
 ahead-same : (n d p i skip : ℕ) (r : TakenEntry) → FirstTaken n d p i skip r → drop skip (ahead n d p i) ≡ drop (r .skip) (ahead n d p (r .at))
 unfolding ahead
-ahead-same n d p i skip r f = f .same (flatMap (candidatesAt n d) (drop (suc p) (points n)) ++ lower n d)
+ahead-same n d p i skip r f = f .same (fromPoint n d (suc p))
 
 ahead-cons : (n d p i : ℕ) → d ≤ 6 → i < stop d → takesPoint n p (getD entries i 0) ≡ true → ahead n d p i ≡ candidateAt d p (getD entries i 0) ∷ ahead n d p (i + 1)
 unfolding ahead
-ahead-cons n d p i hd h t = placed-taken n d p i hd h (flatMap (candidatesAt n d) (drop (suc p) (points n)) ++ lower n d) t
+ahead-cons n d p i hd h t = placed-taken n d p i hd h (fromPoint n d (suc p)) t
 
 lower-ahead : (n : ℕ) → n ≤ 6 → (d : ℕ) → d ≤ 6 → 0 < d → lower n d ≡ ahead n (d - 1) 0 (start (d - 1))
 unfolding lower
@@ -108,13 +72,13 @@ pub record Stand (n on free long : ℕ) (goal : State) (skip d p i : ℕ) (s : S
   pub upto : i ≤ stop d
   pub kept : Kept long s
 
-pub stand-start : (n on free degree skip i : ℕ) (t : Tally) (room : List ℕ) → n ≤ 6 → degree ≤ n → i ≡ start degree → t .written ≡ 0
-    → Stand n on free (length room) (walkBy n on free (drop skip (candidatesFrom n degree)) (state t room)) skip degree 0 i (state t room)
-stand-start n on free degree skip i t room h k e w = record {
-  same = ap (λ l. walkBy n on free (drop skip l) (state t room)) (sym (ahead-degree n degree h (omega arith) ∙ ap (ahead n degree 0) (sym e)));
+pub stand-start : (n on free degree point skip i : ℕ) (t : Tally) (room : List ℕ) → n ≤ 6 → degree ≤ n → point < 2 ^ n → i ≡ start degree → t .written ≡ 0
+    → Stand n on free (length room) (walkBy n on free (drop skip (fromPoint n degree point)) (state t room)) skip degree point i (state t room)
+stand-start n on free degree point skip i t room h k l e w = record {
+  same = ap (λ l. walkBy n on free (drop skip l) (state t room)) (sym (ahead-from n degree point h (omega arith) l ∙ ap (ahead n degree point) (sym e)));
   few = h;
   short = k;
-  point = pow-pos n;
+  point = l;
   from = omega arith;
   upto = omega (arith, bounds degree (omega arith) .0);
   kept = record { keeps = refl; wrote = omega arith };

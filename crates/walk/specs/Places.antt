@@ -1,16 +1,27 @@
--- Places in the table of bases: the entries from a place on, and the first of them that a walk comes to. Read next: Walk.
+-- The candidates from a least point on; and places in the table of bases: the entries from a place on, and the first of them that a walk comes to.
+-- Read next: Walk.
 use mathlib.Core.Path.{_≡_}
 use mathlib.Core.Bool.{true}
-use mathlib.Core.List.{List, _++_, map}
-use Prim.Native.Nat.{ℕ, _≤_, _<_}
+use mathlib.Core.List.{List, [], _++_, map, flatMap}
+use Prim.Native.Nat.{ℕ, zero, suc, _≤_, _<_}
 use lib.ListN.{getD, drop}
 use lib.Seq.{slice}
 use Rattle.cubes.specs.Lists.{keep}
 use Rattle.cubes.specs.Cubes.{Candidate}
+use Rattle.cubes.specs.Candidates.{points, candidatesAt, candidatesFrom}
 use Rattle.bases.specs.Entries.{entries}
 use Rattle.bases.specs.Bases.{stop, takesPoint}
 use Rattle.bases.specs.Entry.{candidateAt}
 use Rattle.walk.specs.declared.TakenEntry.{TakenEntry}
+
+-- The candidates of less than degree d.
+unfoldable pub lower : ℕ → ℕ → List Candidate
+lower n zero = []
+lower n (suc d) = candidatesFrom n d
+
+-- The candidates of degree d whose least point is p or a later one, and those of less than degree d.
+unfoldable pub fromPoint : ℕ → ℕ → ℕ → List Candidate
+fromPoint n d p = flatMap (candidatesAt n d) (drop p (points n)) ++ lower n d
 
 -- The entries of d vectors from place i on that are taken with the point p.
 abbrev pub takenFrom : ℕ → ℕ → ℕ → ℕ → List ℕ

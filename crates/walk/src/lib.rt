@@ -8,13 +8,12 @@ ghost use mathlib.Core.List.{[], _∷_, _++_};
 ghost use Prim.Native.Nat.{_+_, _*_, _^_, _≤_, _<_};
 ghost use lib.ListN.{length, drop};
 ghost use lib.Seq.{sets};
-ghost use Rattle.cubes.specs.Candidates.{candidatesFrom};
 ghost use Rattle.cubes.specs.Records.{maxListed, recordLength};
 ghost use Rattle.bases.specs.Entries.{entries};
 ghost use Rattle.bases.specs.Bases.{stop, vectorsOf};
 ghost use Rattle.masks.specs.Points.{OfPoints};
 ghost use Rattle.bases.specs.Entry.{candidateAt, EntryAt};
-ghost use Rattle.walk.specs.Places.{FirstTaken};
+ghost use Rattle.walk.specs.Places.{fromPoint, FirstTaken};
 ghost use Rattle.walk.specs.Walk.{starting, passing, writing, stopping, state, passBy, walkBy};
 
 // ---- the entries of the table of bases
@@ -155,12 +154,13 @@ fn pass(
 
 // ---- the walk
 
-// The walk over the candidates of a degree and less, without the first few.
+// The walk over the candidates of a degree from a least point on, and of lower degrees, without the first few.
 pub fn walk(
     on: u64,
     free: u64,
     n: usize,
     degree: usize,
+    point: u64,
     mut skip: u64,
     allowance: u64,
     room: &mut [u8],
@@ -169,7 +169,8 @@ pub fn walk(
     requires { ⌜ OfPoints n free ⌝ }
     requires { ⌜ n ≤ maxListed ⌝ }
     requires { ⌜ degree ≤ n ⌝ }
-    ensures { λ r. ⌜ state r (now (room .exit)) ≡ walkBy n on free (drop skip (candidatesFrom n degree)) (state (starting allowance) (now (room .entry))) ⌝ }
+    requires { ⌜ point < 2 ^ n ⌝ }
+    ensures { λ r. ⌜ state r (now (room .exit)) ≡ walkBy n on free (drop skip (fromPoint n degree point)) (state (starting allowance) (now (room .entry))) ⌝ }
 {
     let table = bases::entries::table();
     let mut tally = Tally {
@@ -178,7 +179,7 @@ pub fn walk(
         stopped: false,
     };
     let mut d = degree;
-    let mut p: u64 = 0;
+    let mut p = point;
     let mut i = bases::start_of(d);
     loop {
         let found = first_taken(&table, n, d, p, i, skip);

@@ -40,37 +40,47 @@ start-at-requires c κs =
     let a = e .before .before .before .before .before .args in
     sound-few (a .n) (now (a .on)) (now (a .free)) (a .place) (a .allowance) (now (a .room)) (sound e)
 
+point-at-requires : tie.Need-point-at-requires
+point-at-requires c κs =
+    let e = c .before .before .before in
+    let a = e .before .before .before .before .before .args in
+    (sound-few (a .n) (now (a .on)) (now (a .free)) (a .place) (a .allowance) (now (a .room)) (sound e), c .start-at .ensures .short)
+
 walk-requires : tie.Need-walk-requires
 walk-requires c κs =
-    let m = c .before .before in
+    let b = c .before in
+    let m = b .before .before in
     let e = m .before .before in
     let a = e .before .before .before .before .before .args in (
       on-points (a .n) (now (a .on)) (now (a .free)) (a .place) (a .allowance) (now (a .room)) (sound e) (m .before .mask-of .result) (m .before .mask-of .ensures),
       (
         free-points (a .n) (now (a .on)) (now (a .free)) (a .place) (a .allowance) (now (a .room)) (sound e) (m .mask-of2 .result) (m .mask-of2 .ensures),
-        (sound-few (a .n) (now (a .on)) (now (a .free)) (a .place) (a .allowance) (now (a .room)) (sound e), c .before .start-at .ensures .short),
+        (
+          sound-few (a .n) (now (a .on)) (now (a .free)) (a .place) (a .allowance) (now (a .room)) (sound e),
+          (b .before .start-at .ensures .short, b .point-at .ensures .below),
+        ),
       ),
     )
 
 -- The walk has ended.
 finished : (c : tie.After-struct-known)
-    → let a = c .before .before .before .before .before .before .before .before .before .before .before .before .before .args in
-    let w = c .before .before .before .walk in
-    Finished (a .n) (now (a .on)) (now (a .free)) (a .place) (a .allowance) (now (a .room)) (state (w .result) (w .last .1 .1 .1 .1 .1 .1 .0))
+    → let w = c .before .before .before in
+    let a = w .before .before .before .before .before .before .before .before .before .before .before .args in
+    Finished (a .n) (now (a .on)) (now (a .free)) (a .place) (a .allowance) (now (a .room)) (state (w .walk .result) (w .walk .last .1 .1 .1 .1 .1 .1 .1 .0))
 finished c =
     let w = c .before .before .before in
     let b = w .before .before in
-    let m = b .before in
+    let m = b .before .before in
     let e = m .before .before in
     let a = e .before .before .before .before .before .args in
-    finish (a .n) (now (a .on)) (now (a .free)) (a .place) (a .allowance) (now (a .room)) (sound e) (b .start-at .result) (b .start-at .ensures)
-    (m .before .mask-of .result) (m .mask-of2 .result) (m .before .mask-of .ensures) (m .mask-of2 .ensures) _ (w .walk .ensures)
+    finish (a .n) (now (a .on)) (now (a .free)) (a .place) (a .allowance) (now (a .room)) (sound e) (b .before .start-at .result) (b .before .start-at .ensures)
+    (b .point-at .result) (b .point-at .ensures) (m .before .mask-of .result) (m .mask-of2 .result) (m .before .mask-of .ensures) (m .mask-of2 .ensures) _ (w .walk .ensures)
 
 sub-passed : tie.Need-sub-passed
 sub-passed c = finished c .left
 
-add-t16 : tie.Need-add-t16
-add-t16 c = omega (arith, finished c .fits)
+add-t15 : tie.Need-add-t15
+add-t15 c = omega (arith, finished c .fits)
 
 same-length : tie.Need-same-length
 same-length c = search needs
@@ -87,8 +97,9 @@ list-primes-spec =
     mask-of-requires
     mask-of-requires-2
     start-at-requires
+    point-at-requires
     walk-requires
     sub-passed
-    add-t16
+    add-t15
     same-length
     returns-2)

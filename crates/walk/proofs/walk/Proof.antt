@@ -7,33 +7,33 @@ use lib.ListN.{length, getD, drop}
 use borrow.Author.Needs.{needs}
 use denote.Ref.{now}
 use Rattle.gf2.proofs.Xor.{shifted-one}
-use Rattle.cubes.specs.Candidates.{candidatesFrom}
 use Rattle.bases.specs.Entries.{entries}
 use Rattle.bases.specs.Bases.{entryCount, stop}
-use Rattle.walk.specs.Places.{FirstTaken}
+use Rattle.walk.specs.Places.{fromPoint, FirstTaken}
 use Rattle.walk.specs.Walk.{starting, state, walkBy}
 use Rattle.walk.proofs.Stand.{Stand, stand-start, six, last, small, entry-stands, passed-kept, to-entry, at-stop, to-point, at-end, to-degree}
 use Rattle.walk.proofs.walk.Statement.{statement}
 use Rattle.walk.proofs.walk.Tie as tie
 
 abbrev Inv-loop : tie.InvT-loop
-Inv-loop on free n degree skip₀ allowance room₀ table tally₀ d₀ p₀ i₀ skip room tally d p i =
-    Stand n on free (length room₀) (walkBy n on free (drop skip₀ (candidatesFrom n degree)) (state (starting allowance) room₀)) skip d p i (state tally room)
+Inv-loop on free n degree point skip₀ allowance room₀ table tally₀ d₀ p₀ i₀ skip room tally d p i =
+    Stand n on free (length room₀) (walkBy n on free (drop skip₀ (fromPoint n degree point)) (state (starting allowance) room₀)) skip d p i (state tally room)
 
 abbrev μ-loop : tie.MeasureT-loop
-μ-loop on free n degree skip₀ allowance room₀ table tally₀ d₀ p₀ i₀ skip room tally d p i = d * 200000 + (64 - p) * 2900 + (entryCount - i)
+μ-loop on free n degree point skip₀ allowance room₀ table tally₀ d₀ p₀ i₀ skip room tally d p i = d * 200000 + (64 - p) * 2900 + (entryCount - i)
 
 table-requires : tie.Need-table-requires Inv-loop μ-loop
 table-requires c κs = search needs
 
 start-of-requires : tie.Need-start-of-requires Inv-loop μ-loop
-start-of-requires c κs = let s = c .before .before in omega (arith, s .pre .1 .1 .0, s .pre .1 .1 .1)
+start-of-requires c κs = let s = c .before .before in omega (arith, s .pre .1 .1 .0, s .pre .1 .1 .1 .0)
 
 loop-holds : tie.Need-loop-holds Inv-loop μ-loop
 loop-holds c =
     let s = c .before .before .before in
     let a = s .args in
-    stand-start (a .n) (a .on) (a .free) (a .degree) (a .skip) (c .start-of .result) (starting (a .allowance)) (now (a .room)) (s .pre .1 .1 .0) (s .pre .1 .1 .1) (c .start-of .ensures) refl
+    stand-start (a .n) (a .on) (a .free) (a .degree) (a .point) (a .skip) (c .start-of .result) (starting (a .allowance)) (now (a .room)) (s .pre .1 .1 .0) (s .pre .1 .1 .1 .0) (s .pre .1 .1 .1 .1)
+    (c .start-of .ensures) refl
 
 first-taken-requires : tie.Need-first-taken-requires Inv-loop μ-loop
 first-taken-requires c κs = let t = c .before .loop .inv in (c .before .before .before .table .ensures, (t .few, (six t, t .upto)))
