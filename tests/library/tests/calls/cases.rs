@@ -17,10 +17,10 @@ use library::settings::some;
 use library::{Indexed, PointRecord};
 use reference::calls;
 use reference::index::Record;
+use reference::numbers::ListingNumbers;
 use reference::numbers::TableNumbers;
 use reference::numbers::{short_list, AnalysisNumbers, CompletionNumbers, FormNumbers};
 use reference::numbers::{ComparisonNumbers, FormPointsNumbers, IndexNumbers, RewriteNumbers};
-use reference::numbers::ListingNumbers;
 
 /// The fields of a case must be these, in order of name.
 fn assert_fields(case: &Case, call: &str, takes: &[&str], gives: &[&str]) {
@@ -322,7 +322,12 @@ fn check_list_primes(case: &Case, call: ListingCall) -> u8 {
     let (place, allowance) = (takes.number("place"), takes.number("allowance"));
     let mut room = takes.bytes("room");
     let found = call(takes.number("n"), &on, &free, place, allowance, &mut room);
-    assert_eq!((found, room), (expected, gives.bytes("room")), "{}", case.title);
+    assert_eq!(
+        (found, room),
+        (expected, gives.bytes("room")),
+        "{}",
+        case.title
+    );
     expected.refusal
 }
 

@@ -530,7 +530,11 @@ fn record(degree: u8, least: u8, basis: &[u8], count: u8) -> Vec<u8> {
 
 /// Makes a call with all candidates allowed and a room of so many bytes, which must
 /// be as lent behind the records: its numbers, and the records.
-fn list_all((n, on, free): (usize, &[u16], &[u16]), place: u64, length: usize) -> (Listed, Vec<u8>) {
+fn list_all(
+    (n, on, free): (usize, &[u16], &[u16]),
+    place: u64,
+    length: usize,
+) -> (Listed, Vec<u8>) {
     let mut room = vec![7; length];
     let found = lent_calls::list_primes(n, on, free, place, u64::MAX, &mut room);
     let behind = room.split_off(RECORD_LENGTH * found.records);
@@ -577,12 +581,24 @@ fn rooms_around_all_records() {
 fn rooms_around_a_record() {
     let p6: (usize, &[u16], &[u16]) = (3, &P6_ON, &[]);
     let (_, all) = list_all(p6, 0, 5 * RECORD_LENGTH);
-    let stops: Vec<Listed> = (0..3).map(|room| list_all(p6, 0, room * RECORD_LENGTH).0).collect();
-    assert_eq!(stops.iter().map(|found| found.records).collect::<Vec<usize>>(), [0, 1, 2]);
+    let stops: Vec<Listed> = (0..3)
+        .map(|room| list_all(p6, 0, room * RECORD_LENGTH).0)
+        .collect();
+    assert_eq!(
+        stops
+            .iter()
+            .map(|found| found.records)
+            .collect::<Vec<usize>>(),
+        [0, 1, 2]
+    );
     for length in 0..3 * RECORD_LENGTH {
         let expected = stops[length / RECORD_LENGTH];
         let records = all[..RECORD_LENGTH * expected.records].to_vec();
-        assert_eq!(list_all(p6, 0, length), (expected, records), "{length} bytes");
+        assert_eq!(
+            list_all(p6, 0, length),
+            (expected, records),
+            "{length} bytes"
+        );
     }
 }
 
@@ -604,7 +620,10 @@ fn counts_of_whole_spaces() {
         let basis: Vec<u8> = (0..n).map(|place| 1 << place).collect();
         let everywhere: Vec<u16> = (0..size).collect();
         let whole = |count| (listed(end, end, 1), record(n as u8, 0, &basis, count));
-        assert_eq!(list_all((n, &everywhere, &[]), 0, RECORD_LENGTH), whole(size as u8));
+        assert_eq!(
+            list_all((n, &everywhere, &[]), 0, RECORD_LENGTH),
+            whole(size as u8)
+        );
         for on in 0..size {
             let free: Vec<u16> = (0..size).filter(|&point| point != on).collect();
             assert_eq!(list_all((n, &[on], &free), 0, RECORD_LENGTH), whole(1));
@@ -642,7 +661,9 @@ fn as_before_but_for_the_count() {
         let (found, records) = lent.call(&mut tally, call);
         let count = bytes.len() / CUBE_LENGTH;
         assert_eq!(found, listed(next as u64, (next - place) as u64, count));
-        let cubes = records.chunks_exact(RECORD_LENGTH).flat_map(|record| &record[..CUBE_LENGTH]);
+        let cubes = records
+            .chunks_exact(RECORD_LENGTH)
+            .flat_map(|record| &record[..CUBE_LENGTH]);
         assert_eq!(cubes.copied().collect::<Vec<u8>>(), bytes);
     }
     tally.finish(&[0]);

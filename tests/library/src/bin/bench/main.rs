@@ -142,9 +142,9 @@ fn list(call: ListingCall, table: &Table, place: u64, allowance: u64, room: &mut
     call(*n, on, free, place, allowance, black_box(room))
 }
 
-/// Times listing calls at each place, after a comparison of what both sides
-/// return and write.
-fn listing(title: &str, table: &Table, places: &[u64], allowance: u64) {
+/// Times listing calls at each place beside a call in plain Rust, after a comparison
+/// of what both sides return and write.
+fn listing(title: &str, plain_call: ListingCall, table: &Table, places: &[u64], allowance: u64) {
     let (mut library_room, mut plain_room) = (vec![0; RECORDS_LENGTH], vec![0; RECORDS_LENGTH]);
     for &place in places {
         let answer = list(
@@ -154,7 +154,7 @@ fn listing(title: &str, table: &Table, places: &[u64], allowance: u64) {
             allowance,
             &mut library_room,
         );
-        let plain_answer = list(plain::list_primes, table, place, allowance, &mut plain_room);
+        let plain_answer = list(plain_call, table, place, allowance, &mut plain_room);
         assert_eq!(answer, plain_answer);
         assert_eq!(library_room, plain_room);
     }
@@ -170,7 +170,7 @@ fn listing(title: &str, table: &Table, places: &[u64], allowance: u64) {
                 &mut library_room,
             )
         },
-        |&place| list(plain::list_primes, table, place, allowance, &mut plain_room),
+        |&place| list(plain_call, table, place, allowance, &mut plain_room),
     );
 }
 
@@ -179,12 +179,27 @@ fn listing(title: &str, table: &Table, places: &[u64], allowance: u64) {
 fn listings() {
     let random = generate::random_table(&mut Generator::new(1), 6, 40, 20);
     let one_on = (6, vec![0], (1..64).collect());
-    listing("n 6, random", &random, &[0], u64::MAX);
-    listing("n 6, parity", &generate::weight_bit(6, 0), &[0], u64::MAX);
-    listing("n 6, all on", &generate::threshold(6, 0), &[0], u64::MAX);
-    listing("n 6, all free but one", &one_on, &[0], u64::MAX);
+    for (title, table) in [
+        ("n 6, random", &random),
+        ("n 6, parity", &generate::weight_bit(6, 0)),
+        ("n 6, all on", &generate::threshold(6, 0)),
+        ("n 6, all free but one", &one_on),
+    ] {
+        listing(title, plain::list_primes, table, &[0], u64::MAX);
+    }
     let places: Vec<u64> = (0..26_387).collect();
-    listing("n 6, random, allowance 1", &random, &places, 1);
+    for (title, plain_call) in [
+        (
+            "n 6, random, allowance 1",
+            plain::list_primes as ListingCall,
+        ),
+        (
+            "n 6, random, allowance 1, by bases",
+            plain::list_primes_by_bases,
+        ),
+    ] {
+        listing(title, plain_call, &random, &places, 1);
+    }
 }
 
 /// Times the call for the smallest affine space, of full dimension and of one less.

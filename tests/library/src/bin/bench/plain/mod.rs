@@ -39,7 +39,7 @@ pub use complete::complete;
 pub use growth::complete_by_growth;
 pub use index::{index_append, index_build, index_remove, Way};
 pub use linear_space::linear_space;
-pub use list_primes::list_primes;
+pub use list_primes::{list_primes, list_primes_by_bases};
 pub use read_table::read_into_rooms;
 pub use report::report;
 pub use write_form::write_form;
