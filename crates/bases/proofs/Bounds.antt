@@ -1,4 +1,4 @@
--- Laws of the table by place: its bounds, and the entries of a number of vectors. Read next: Entry.
+-- Laws of the table by place: its bounds, and the entries of a number of vectors. Read next: LeadBits.
 use mathlib.Core.Path.{_≡_, refl, ap, _∙_, subst}
 use mathlib.Core.Bool.{true, _&&_}
 use Prim.Native.Nat.{ℕ, _+_, _-_, _≤_, _<_}

@@ -1,7 +1,8 @@
 -- Laws about the definitions in specs/; read in this order. Those that other crates cite: `mask-least`, `mask-below` (Masks), `entries-bases`,
--- `entry-mask`, `entries-fewer`, `entries-at` (Table), `bounds`, `entry-at`, `entry-mem` (Bounds), `vectors-step`, `vectors-each`,
+-- `entry-mask`, `entries-fewer`, `entries-at` (Table), `bounds`, `entry-at`, `entry-mem` (Bounds), `takes-mask`, `takes-avoided` (LeadBits), `vectors-step`, `vectors-each`,
 -- `entry-candidate`, `entry-written` (Entry).
 pub mod Masks
 pub mod Table
 pub mod Bounds
+pub mod LeadBits
 pub mod Entry

@@ -1,7 +1,7 @@
 -- What an entry of the table says, and which entries serve fewer variables and a given least point. Read next: Entry.
 use mathlib.Core.Bool.{Bool, _&&_}
 use mathlib.Core.List.{List, [], _∷_}
-use Prim.Native.Nat.{ℕ, zero, suc, _/_, _%_, _^_}
+use Prim.Native.Nat.{ℕ, zero, suc, _+_, _-_, _/_, _%_, _^_}
 use lib.ListN.{getD}
 use lib.Seq.{slice}
 use lib.Dec.{ltb, eqb}
@@ -33,6 +33,11 @@ maskOf e = e / 2 ^ 48
 -- The entry is a basis of n variables, as its lead bits tell.
 abbrev pub fitsEntry : ℕ → ℕ → Bool
 fitsEntry n e = ltb (maskOf e) (2 ^ n)
+
+-- The lead bits that no basis of n variables with the least point p has: those of p, and those that n variables don't have. One number below 64, since p
+-- is below 2 ^ n.
+abbrev pub avoided : ℕ → ℕ → ℕ
+avoided n p = p + (64 - 2 ^ n)
 
 -- The entry is a basis of n variables, and p is a least point of one of its cosets: it has none of its lead bits.
 unfoldable pub takesPoint : ℕ → ℕ → ℕ → Bool

@@ -3,9 +3,9 @@
 pub mod entries;
 
 ghost use mathlib.Core.Path.{_≡_};
-ghost use Prim.Native.Nat.{_≤_};
+ghost use Prim.Native.Nat.{_*_, _^_, _≤_, _<_};
 ghost use Rattle.cubes.specs.Records.{maxListed};
-ghost use Rattle.bases.specs.Bases.{start, stop, fitsEntry, takesPoint};
+ghost use Rattle.bases.specs.Bases.{start, stop, fitsEntry, avoided};
 
 // Where the entries of d vectors begin and end.
 const STARTS: [usize; 7] = [2824, 2761, 2110, 715, 64, 1, 0];
@@ -34,10 +34,12 @@ pub fn fits(n: usize, entry: u64) -> bool
     entry >> 48 < (1 << n)
 }
 
-// Whether it is one of which p is a least point: p has none of the lead bits.
-pub fn taken(n: usize, p: u64, entry: u64) -> bool
+// The lead bits that no basis of n variables with the least point p has, where an entry has its lead bits: an entry is such a basis exactly if it has none
+// of them (`takes-avoided`).
+pub fn avoided(n: usize, p: u64) -> u64
     requires { ⌜ n ≤ maxListed ⌝ }
-    ensures { λ r. ⌜ r ≡ takesPoint n p entry ⌝ }
+    requires { ⌜ p < 2 ^ n ⌝ }
+    ensures { λ r. ⌜ r ≡ avoided n p * 2 ^ 48 ⌝ }
 {
-    fits(n, entry) && p & (entry >> 48) == 0
+    (p + (64 - (1 << n))) << 48
 }

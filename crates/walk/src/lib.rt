@@ -10,7 +10,7 @@ ghost use lib.ListN.{length, drop};
 ghost use lib.Seq.{sets};
 ghost use Rattle.cubes.specs.Records.{maxListed, recordLength};
 ghost use Rattle.bases.specs.Entries.{entries};
-ghost use Rattle.bases.specs.Bases.{stop, vectorsOf};
+ghost use Rattle.bases.specs.Bases.{start, stop, vectorsOf};
 ghost use Rattle.masks.specs.Points.{OfPoints};
 ghost use Rattle.bases.specs.Entry.{candidateAt, EntryAt};
 ghost use Rattle.walk.specs.Places.{fromPoint, FirstTaken};
@@ -36,14 +36,17 @@ fn first_taken(
     requires { ⌜ now table ≡ entries ⌝ }
     requires { ⌜ n ≤ maxListed ⌝ }
     requires { ⌜ d ≤ maxListed ⌝ }
+    requires { ⌜ p < 2 ^ n ⌝ }
+    requires { ⌜ start d ≤ i ⌝ }
     requires { ⌜ i ≤ stop d ⌝ }
     ensures { λ r. ⌜ FirstTaken n d p i skip r ⌝ }
 {
     let end = bases::stop_of(d);
+    let avoided = bases::avoided(n, p);
     let mut at = i;
     let mut left = skip;
     while at < end {
-        if !bases::taken(n, p, table[at]) {
+        if table[at] & avoided != 0 {
             at += 1;
             continue;
         }

@@ -1,49 +1,66 @@
 -- `walk::first_taken` meets its contract: what is left without the candidates still to be skipped stays the same. Assumes nothing.
-use mathlib.Core.Path.{_≡_, refl, sym, ap, _∙_}
+use mathlib.Core.Path.{_≡_, refl, sym, ap, ap₂, _∙_}
+use mathlib.Core.Bool.{true}
 use mathlib.Core.List.{List}
-use Prim.Native.Nat.{ℕ, _+_, _-_, _≤_}
+use Prim.Native.Nat.{ℕ, _+_, _-_, _≤_, _<_}
 use native.Mathlib.Omega.{arith}
+use lib.Dec.{eqb}
+use lib.Bits.{bitAnd}
 use lib.ListN.{getD, drop}
 use borrow.Author.Needs.{needs}
-use borrow.Author.Tests.{not-true, not-false}
+use borrow.Author.Tests.{eq-eqb, ne-eqb}
+use denote.Ref.{now}
 use Rattle.cubes.specs.Cubes.{Candidate}
 use Rattle.bases.specs.Entries.{entries}
-use Rattle.bases.specs.Bases.{takesPoint}
+use Rattle.bases.specs.Bases.{entryCount, stop, takesPoint}
 use Rattle.bases.specs.Entry.{candidateAt}
-use Rattle.bases.proofs.Bounds.{bounds}
+use Rattle.bases.proofs.Bounds.{bounds, entry-mem}
+use Rattle.bases.proofs.LeadBits.{takes-avoided}
 use Rattle.walk.specs.Places.{placed}
 use Rattle.walk.proofs.Rows.{placed-next, placed-taken, drop-one}
 use Rattle.walk.proofs.first_taken.Statement.{statement}
 use Rattle.walk.proofs.first_taken.Tie as tie
 
 abbrev Inv-loop : tie.InvT-loop
-Inv-loop table n d p i skip end at₀ left₀ at left =
+Inv-loop table n d p i skip end avoided at₀ left₀ at left =
     (i ≤ at) × (at ≤ end) × ((rest : List Candidate) → drop skip (placed n d p i rest) ≡ drop left (placed n d p at rest))
 
 abbrev μ-loop : tie.MeasureT-loop
-μ-loop table n d p i skip end at₀ left₀ at left = end - at
+μ-loop table n d p i skip end avoided at₀ left₀ at left = end - at
 
 stop-of-requires : tie.Need-stop-of-requires Inv-loop μ-loop
 stop-of-requires c κs = c .pre .1 .1 .0
 
+avoided-requires : tie.Need-avoided-requires Inv-loop μ-loop
+avoided-requires c κs = let s = c .before in (s .pre .1 .0, s .pre .1 .1 .1 .0)
+
 loop-holds : tie.Need-loop-holds Inv-loop μ-loop
-loop-holds c = (omega arith, omega (arith, c .before .pre .1 .1, c .stop-of .ensures), λ rest. refl)
+loop-holds c = let e = c .before in (omega arith, omega (arith, e .before .pre .1 .1 .1 .1 .1, e .stop-of .ensures), λ rest. refl)
 
-mul-taken : tie.Need-mul-taken Inv-loop μ-loop
-mul-taken c = let e = c .before .before in omega (arith, c .loop-test .taken, e .stop-of .ensures, bounds (e .before .args .d) (e .before .pre .1 .1 .0) .1)
+-- The entry at the place is one of d vectors, and of the table.
+within : (c : tie.In-loop Inv-loop μ-loop) → (c .before .loop .at < stop (c .before .before .before .before .args .d)) × (stop (c .before .before .before .before .args .d) ≤ entryCount)
+within c =
+    let e = c .before .before .before in
+    (omega (arith, c .loop-test .taken, e .stop-of .ensures), bounds (e .before .args .d) (e .before .pre .1 .1 .0) .1)
 
-element-copy-out-taken : tie.Need-element-copy-out-taken Inv-loop μ-loop
-element-copy-out-taken c = let e = c .before .before in omega (arith, c .loop-test .taken, e .stop-of .ensures, bounds (e .before .args .d) (e .before .pre .1 .1 .0) .1)
+mul-if1 : tie.Need-mul-if1 Inv-loop μ-loop
+mul-if1 c = omega (arith, within c)
 
-taken-requires : tie.Need-taken-requires Inv-loop μ-loop
-taken-requires c κs = c .before .before .before .before .pre .1 .0
+element-copy-out-if1 : tie.Need-element-copy-out-if1 Inv-loop μ-loop
+element-copy-out-if1 c = omega (arith, within c)
 
 -- What the test says of the entry.
-test : (c : tie.After-taken Inv-loop μ-loop)
-    → c .taken .result ≡ takesPoint (c .before .before .before .before .before .args .n) (c .before .before .before .before .before .args .p) (getD entries (c .before .before .before .loop .at) 0)
-test c =
-    let s = c .before .before .before .before .before in
-    c .taken .ensures ∙ ap (λ l. takesPoint (s .args .n) (s .args .p) (getD l (c .before .before .before .loop .at) 0)) (s .pre .0)
+tested : (c : tie.In-loop Inv-loop μ-loop)
+    → let l = c .before in
+    let a = l .before .before .before .args in
+    eqb (bitAnd (getD (now (a .table)) (l .loop .at) 0) (l .before .avoided .result)) 0 ≡ takesPoint (a .n) (a .p) (getD entries (l .loop .at) 0)
+tested c =
+    let l = c .before in
+    let s = l .before .before .before in
+    let a = s .args in
+    ap₂ (λ (t : List ℕ) (v : ℕ). eqb (bitAnd (getD t (l .loop .at) 0) v) 0) (s .pre .0) (l .before .avoided .ensures)
+    ∙ sym (takes-avoided (a .n) (a .d) (a .p) (getD entries (l .loop .at) 0) (s .pre .1 .0) (s .pre .1 .1 .0) (s .pre .1 .1 .1 .0)
+    (entry-mem (a .d) (l .loop .at) (s .pre .1 .1 .0) (omega (arith, s .pre .1 .1 .1 .1 .0, l .loop .inv .0)) (within c .0)))
 
 add-at : tie.Need-add-at Inv-loop μ-loop
 add-at c = search needs
@@ -53,28 +70,36 @@ loop-less c = search needs
 
 loop-again : tie.Need-loop-again Inv-loop μ-loop
 loop-again c =
-    let e = c .before .before .before .before .before in
-    let l = c .before .before .before .before .loop in
-    let a = e .before .args in
-    let h = c .before .before .before .loop-test .taken in (
+    let l = c .before .before .before .loop in
+    let s = c .before .before .before .before .before .before in
+    let a = s .args in
+    let h = within (c .before .before) .0 in (
       omega (arith, l .inv .0),
-      omega (arith, h),
-      λ rest. l .inv .2 rest
-          ∙ ap (drop (l .left)) (placed-next (a .n) (a .d) (a .p) (l .at) (e .before .pre .1 .1 .0) (omega (arith, h, e .stop-of .ensures)) rest
-          (sym (test (c .before)) ∙ not-true (c .before .taken .result) (c .if1 .taken))),
+      omega (arith, c .before .before .loop-test .taken),
+      λ rest. l .inv .2 rest ∙ ap (drop (l .left)) (placed-next (a .n) (a .d) (a .p) (l .at) (s .pre .1 .1 .0) h rest
+          (sym (tested (c .before .before)) ∙ ne-eqb (bitAnd (getD (now (a .table)) (l .at) 0) (c .before .before .before .before .avoided .result)) 0 (c .if1 .taken))),
     )
+
+-- An entry that passes is taken.
+held : (c : tie.Else1 Inv-loop μ-loop)
+    → let l = c .before .before .before in
+    takesPoint (l .before .before .before .args .n) (l .before .before .before .args .p) (getD entries (l .loop .at) 0) ≡ true
+held c =
+    let l = c .before .before .before in
+    sym (tested (c .before .before)) ∙ eq-eqb (bitAnd (getD (now (l .before .before .before .args .table)) (l .loop .at) 0) (l .before .avoided .result)) 0 (c .if1 .left)
 
 returns : tie.Need-returns Inv-loop μ-loop
 returns c =
-    let e = c .before .before .before .before .before .before in
-    let l = c .before .before .before .before .before .loop in
-    let a = e .before .args in
+    let e = c .before in
+    let l = e .before .before .before .loop in
+    let t = e .before .before .before .before in
+    let a = t .before .before .args in
     let z : l .left ≡ 0 = omega (arith, c .if2 .taken) in
     record {
       low = l .inv .0;
-      high = omega (arith, l .inv .1, e .stop-of .ensures);
+      high = omega (arith, l .inv .1, t .before .stop-of .ensures);
       same = λ rest. l .inv .2 rest ∙ ap (λ (k : ℕ). drop k (placed (a .n) (a .d) (a .p) (l .at) rest)) z;
-      taken = λ h. (refl, sym (test (c .before .before)) ∙ not-false (c .before .before .taken .result) (c .before .if1 .left));
+      taken = λ h. (refl, held e);
     }
 
 sub-left : tie.Need-sub-left Inv-loop μ-loop
@@ -88,21 +113,19 @@ loop-less-2 c = search needs
 
 loop-again-2 : tie.Need-loop-again-2 Inv-loop μ-loop
 loop-again-2 c =
-    let e = c .before .before .before .before .before .before in
-    let l = c .before .before .before .before .before .loop in
-    let a = e .before .args in
-    let h = c .before .before .before .before .loop-test .taken in (
+    let e = c .before in
+    let l = e .before .before .before .loop in
+    let s = e .before .before .before .before .before .before in
+    let a = s .args in (
       omega (arith, l .inv .0),
-      omega (arith, h),
-      λ rest. l .inv .2 rest
-          ∙ ap (drop (l .left)) (placed-taken (a .n) (a .d) (a .p) (l .at) (e .before .pre .1 .1 .0) (omega (arith, h, e .stop-of .ensures)) rest
-          (sym (test (c .before .before)) ∙ not-false (c .before .before .taken .result) (c .before .if1 .left)))
+      omega (arith, e .before .before .loop-test .taken),
+      λ rest. l .inv .2 rest ∙ ap (drop (l .left)) (placed-taken (a .n) (a .d) (a .p) (l .at) (s .pre .1 .1 .0) (within (e .before .before) .0) rest (held e))
           ∙ drop-one (l .left) (candidateAt (a .d) (a .p) (getD entries (l .at) 0)) (placed (a .n) (a .d) (a .p) (l .at + 1) rest) (c .if2 .left),
     )
 
 returns-2 : tie.Need-returns-2 Inv-loop μ-loop
 returns-2 c =
-    let e = c .before .before in
+    let e = c .before .before .before in
     let l = c .before .loop in
     record { low = l .inv .0; high = omega (arith, l .inv .1, e .stop-of .ensures); same = l .inv .2; taken = λ h. absurd (omega (arith, c .loop-test .left, e .stop-of .ensures)) }
 
@@ -113,10 +136,10 @@ first-taken-spec =
     Inv-loop
     μ-loop
     stop-of-requires
+    avoided-requires
     loop-holds
-    mul-taken
-    element-copy-out-taken
-    taken-requires
+    mul-if1
+    element-copy-out-if1
     add-at
     loop-less
     loop-again

@@ -36,7 +36,7 @@ loop-holds c =
     (c .start-of .ensures) refl
 
 first-taken-requires : tie.Need-first-taken-requires Inv-loop μ-loop
-first-taken-requires c κs = let t = c .before .loop .inv in (c .before .before .before .table .ensures, (t .few, (six t, t .upto)))
+first-taken-requires c κs = let t = c .before .loop .inv in (c .before .before .before .table .ensures, (t .few, (six t, (t .point, (t .from, t .upto)))))
 
 stop-of-requires : tie.Need-stop-of-requires Inv-loop μ-loop
 stop-of-requires c κs = six (c .before .before .loop .inv)
