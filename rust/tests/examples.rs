@@ -6,7 +6,8 @@
 
 use glospruma::{
     affine, analyse, complete, form_points, form_rewrite, linear_space, list_primes, raw,
-    read_table, report, write_form, Listing, Prime, Refusal, CANDIDATES, LISTING_ROOM, RECORD_LENGTH,
+    read_table, report, write_form, Listing, Prime, Refusal, CANDIDATES, LISTING_ROOM,
+    RECORD_LENGTH,
 };
 use std::mem::size_of;
 
