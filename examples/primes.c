@@ -1,8 +1,8 @@
 /* Prints the prime pseudoproducts of a table and how many on points each has. Standard input holds a stored table of at most six inputs. Standard output
- * gets a line for each prime, in the listing's order: its least point, the vectors that lead from there to all its points by XOR, a digit 0 or 1 for each of
- * x1 to xn, and how many of its points are on; the others are free. If the table or the listing is refused, nothing is printed there, `refused N` and why
- * goes to standard error, with the place of the byte at fault where there is one, and the exit status is 1. To build and run it, in the folder of the
- * repository:
+ * gets a line for each prime, in the listing's order: its least point; the vectors that lead from there to all its points by XOR, or `-` if there is none;
+ * and how many of its points are on, the others being free. Points and vectors have a digit 0 or 1 for every input, x1 first. If the table or the listing is
+ * refused, nothing is printed there, `refused N` and why goes to standard error, with the place of the byte at fault where there is one, and the exit status
+ * is 1. To build and run it, in the folder of the repository:
  *
  *     rt check pla_to_table && rt staticlib glospruma
  *     cc -Iinclude examples/primes.c target/staticlib/libglospruma.a -o target/primes

@@ -151,7 +151,7 @@ pub struct Listed {
     pub next: u64,
     /// Candidates passed: the next place less the place.
     pub passed: u64,
-    /// Records written, 8 bytes each.
+    /// Records written, [`RECORD_LENGTH`](crate::RECORD_LENGTH) bytes each.
     pub records: usize,
 }
 

@@ -1,6 +1,6 @@
 -- Laws of the lead bits that are avoided: an entry is a basis of n variables with a least point exactly if it has none of them. Read next: Entry.
 use mathlib.Core.Path.{_≡_, refl, sym, ap, ap₂, _∙_}
-use mathlib.Core.Bool.{Bool, true, false, _&&_, Bool·beq}
+use mathlib.Core.Bool.{Bool, true, _&&_, Bool·beq}
 use Prim.Native.Nat.{ℕ, zero, suc, _+_, _*_, _%_, _^_, _≤_, _<_}
 use native.Mathlib.Nat.{mod-lt}
 use native.Mathlib.Omega.{arith}
@@ -9,7 +9,7 @@ use lib.Bits.{bitAnd, and-comm, and-zero-r, and-block}
 use lib.Pow.{pow-mono, pow-pos, split}
 use borrow.Author.Tests.{ltb-true, ne-eqb}
 use Rattle.gf2.specs.Finite.{Mem, all, every}
-use Rattle.gf2.proofs.Logic.{beq-true}
+use Rattle.gf2.proofs.Logic.{beq-eq}
 use Rattle.gf2.proofs.Finite.{all-at, every-is}
 use Rattle.bases.specs.Entries.{entries}
 use Rattle.bases.specs.Bases.{entriesOf, maskOf, avoided, takesPoint}
@@ -34,18 +34,13 @@ all-same : all (λ n. all (λ p. all (same-test n p) 64) (2 ^ n)) 7 ≡ true
 unfolding all same-test
 all-same = refl
 
-agree : (s t : Bool) → Bool·beq s t ≡ true → s ≡ t
-agree true t e = sym (sym (beq-true t) ∙ e)
-agree false false e = refl
-agree false true e = e
-
 pub takes-mask : (n d p e : ℕ) → n ≤ 6 → d ≤ 6 → p < 2 ^ n → Mem e (entriesOf d) → takesPoint n p e ≡ eqb (bitAnd (avoided n p) (maskOf e)) 0
 unfolding takesPoint same-test
 takes-mask n d p e h k l i =
-    agree (ltb (maskOf e) (2 ^ n) && eqb (bitAnd p (maskOf e)) 0) (eqb (bitAnd (avoided n p) (maskOf e)) 0)
+    beq-eq (ltb (maskOf e) (2 ^ n) && eqb (bitAnd p (maskOf e)) 0) (eqb (bitAnd (avoided n p) (maskOf e)) 0)
     (all-at (same-test n p) 64 (all-at (λ p. all (same-test n p) 64) (2 ^ n) (all-at (λ n. all (λ p. all (same-test n p) 64) (2 ^ n)) 7 all-same n (omega arith)) p l) (maskOf e) (lead-small d k e i))
 
--- The same, where an entry has its lead bits.
+-- The same with the bits moved up to bit 48, where an entry holds its lead bits.
 and-high : (e v : ℕ) → bitAnd e (v * 2 ^ 48) ≡ bitAnd (maskOf e) v * 2 ^ 48
 and-high e v =
     let low : v * 2 ^ 48 ≡ v * 2 ^ 48 + 0 = omega arith in

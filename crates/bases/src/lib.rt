@@ -3,7 +3,7 @@
 pub mod entries;
 
 ghost use mathlib.Core.Path.{_≡_};
-ghost use Prim.Native.Nat.{_*_, _^_, _≤_, _<_};
+ghost use Prim.Native.Nat.{_^_, _≤_, _<_};
 ghost use Rattle.cubes.specs.Records.{maxListed};
 ghost use Rattle.bases.specs.Bases.{start, stop, fitsEntry, avoided};
 
@@ -34,12 +34,11 @@ pub fn fits(n: usize, entry: u64) -> bool
     entry >> 48 < (1 << n)
 }
 
-// The lead bits that no basis of n variables with the least point p has, where an entry has its lead bits: an entry is such a basis exactly if it has none
-// of them (`takes-avoided`).
+// The lead bits that no basis of n variables with the least point p has: an entry is such a basis exactly if it has none of them (`takes-mask`).
 pub fn avoided(n: usize, p: u64) -> u64
     requires { ⌜ n ≤ maxListed ⌝ }
     requires { ⌜ p < 2 ^ n ⌝ }
-    ensures { λ r. ⌜ r ≡ avoided n p * 2 ^ 48 ⌝ }
+    ensures { λ r. ⌜ r ≡ avoided n p ⌝ }
 {
-    (p + (64 - (1 << n))) << 48
+    p + (64 - (1 << n))
 }

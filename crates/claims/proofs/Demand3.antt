@@ -10,7 +10,7 @@ use lib.ListN.{length, take, length-append, length-drop}
 use lib.Seq.{take-all}
 use lib.Dec.{eqb, leb, ltb}
 use borrow.Author.Tests.{eq-eqb, ne-eqb, eqb-true, ltb-true, leb-true, le-ltb}
-use Rattle.gf2.specs.Finite.{Mem, holds, Ordered}
+use Rattle.gf2.specs.Finite.{Mem, Ordered}
 use Rattle.gf2.proofs.Logic.{clash, and-l, and-r}
 use Rattle.gf2.proofs.Finite.{append-mem}
 use Rattle.table.specs.Refusal.{Test, test, NoneApplies, sizeFault, placeFault}
@@ -21,12 +21,12 @@ use Rattle.table.proofs.Decide.{decide-number}
 use Rattle.cubes.specs.Lists.{keep}
 use Rattle.cubes.specs.Cubes.{Candidate, Only}
 use Rattle.cubes.specs.Candidates.{Before, candidates, candidateCount}
-use Rattle.cubes.specs.Records.{maxListed, recordLength}
-use Rattle.cubes.specs.Listing.{Table, Call, primeOf, recordIn, recordsOf, listingTests, listingFault, accepted, aheadOf, listing, Answer, listingAccepted, listingRefused, listingAnswerBy, listingAnswer}
+use Rattle.cubes.specs.Records.{maxListed, recordLength, candidateBytes}
+use Rattle.cubes.specs.Listing.{Table, Call, primeOf, recordsOf, listingTests, listingFault, accepted, aheadOf, listing, Answer, listingAccepted, listingRefused, listingAnswerBy, listingAnswer}
 use Rattle.cubes.specs.Calls.{handedOver, Obeyed, Refused, primesBehind, endOf}
 use Rattle.cubes.proofs.Lists.{keep-mem, mem-keep, take-mem, ordered-keep, ordered-take, ordered-with}
 use Rattle.cubes.proofs.Candidates.{before-not, candidates-ordered}
-use Rattle.cubes.proofs.Listing.{records-append, record-one, rule-moves, accepted-is, accepted-place}
+use Rattle.cubes.proofs.Listing.{records-append, bytes-one, rule-moves, accepted-is, accepted-place}
 use Rattle.cubes.proofs.Calls.{call-obeyed, call-refused, primes-add, candidate-prime, every-prime}
 use Rattle.counts.proofs.Counts.{count-most}
 use Rattle.claims.specs.Demand3.{wasAccepted, goesOn, Continues, advance, reached, sumOf, able, AtEnd, Demand3}
@@ -262,8 +262,8 @@ demand3 t a six calls g =
         λ h. mem-keep (primeOf t) (take (reached 0 calls) cs) c (h .0) (candidate-prime t c (take-mem (reached 0 calls) cs c (h .0)) .1 (h .1)),
       );
       order = behind;
-      once = ordered-with Before (λ a b. recordIn t a ≢ recordIn t b) (primesBehind t (reached 0 calls))
-          (λ a b x y h e. let z = subst (Before a) (sym (record-one (t .variables) (holds (t .on)) a b e)) h in before-not a a z z) behind;
+      once = ordered-with Before (λ a b. candidateBytes a ≢ candidateBytes b) (primesBehind t (reached 0 calls))
+          (λ a b x y h e. let z = subst (Before a) (sym (bytes-one a b e)) h in before-not a a z z) behind;
       whole = λ e C p. subst (λ l. Only (t .variables) C (keep (primeOf t) l)) (sym (take-all (reached 0 calls) cs (omega arith))) (every-prime t C p);
       forward = λ c m a l. able-moves c a (subst (λ (s : Table). c .place < endOf s) (sym (consecutive-table t 0 calls u c m (able-is c a .0))) l);
       enough = λ h. elim (i .moves) [ inl z ↦ omega (arith, i .high) | inr z ↦ z ];

@@ -1,5 +1,5 @@
 -- An index built for a form and handed from call to call is that of the form so far (document 02, No. 5). One step of the invariant `Holding` for each call,
--- accepted or refused; all that is claimed of the list follows from it. Read next: Examples.
+-- accepted or refused; all that is claimed of the list follows from it. Read next: PrimeCounts.
 use mathlib.Core.Path.{_≡_, refl, sym, ap, ap₂, _∙_, subst}
 use mathlib.Core.Bool.{Bool, true, false, cond}
 use mathlib.Core.Logic.{_≢_, inl, inr, _↔_}

@@ -22,11 +22,11 @@ use Rattle.cubes.specs.Listing.{Call, primeOf, recordIn, recordsOf, listingTest
 use Rattle.cubes.specs.Calls.{handedOver, PrimeOf}
 use Rattle.cubes.proofs.Lists.{keep-mem, mem-keep, take-mem, ordered-keep, ordered-same}
 use Rattle.cubes.proofs.Candidates.{candidate-is}
-use Rattle.cubes.proofs.Spaces.{count-most, prime-some}
-use Rattle.cubes.proofs.Listing.{candidate-length, record-length, record-candidate, record-count, record-tells, passage-room, accepted-small, answer-on, answer-off, room-on, call-rule, found-small}
+use Rattle.cubes.proofs.Spaces.{on-count-most, prime-some}
+use Rattle.cubes.proofs.Listing.{candidate-length, record-length, record-candidate, record-count, record-told, passage-room, accepted-small, answer-on, answer-off, room-on, call-rule, found-small}
 use Rattle.cubes.proofs.Calls.{call-obeyed, candidate-prime}
 use Rattle.listing.proofs.Refusals.{sound-table}
-use Rattle.claims.specs.PrimeCounts.{recordsAt, recordsHanded, Counted, withRoom, answerBefore, roomBefore, AsManyRecords, PrimeCounts}
+use Rattle.claims.specs.PrimeCounts.{recordsAt, recordsHanded, CountedRecord, withRoom, answerBefore, roomBefore, AsManyRecords, PrimeCounts}
 
 -- ---- the records of a room
 
@@ -94,12 +94,12 @@ module _ (c : Call) (e : accepted c ≡ true) where
   sound : Accepted n (c .table .on) (c .table .free)
   sound = sound-table n (c .table .on) (c .table .free) (c .place) (c .allowance) (c .room) (eqb-true (listingFault c) 0 e)
 
-  counted : (d : Candidate) → Mem d primes → Counted (c .table) (recordIn (c .table) d)
+  counted : (d : Candidate) → Mem d primes → CountedRecord (c .table) (recordIn (c .table) d)
   unfolding onCount
   counted d m =
       let few = found-small 9 c e d m in
       let is = candidate-is n d .0 (found d m .0) in
-      let told = record-tells n (holds (c .table .on)) d in
+      let told = record-told n (holds (c .table .on)) d in
       let value = record-count n (holds (c .table .on)) d few in
       record {
         nine = record-length n (holds (c .table .on)) d few;
@@ -107,13 +107,13 @@ module _ (c : Call) (e : accepted c ≡ true) where
         count = value ∙ keep-count (pointsOf d) (c .table .on) (2 ^ n) (sound .on-rising) (sound .on-below)
             ∙ ap (λ (z : Candidate). length (keep (pointsOf z) (c .table .on))) (sym told);
         least = omega (arith, value, prime-some n (holds (c .table .on)) (holds (c .table .free)) d is (found d m .1));
-        most = omega (arith, value, count-most n (holds (c .table .on)) (holds (c .table .free)) d is, pow-mono (accepted-small c e));
+        most = omega (arith, value, on-count-most n (holds (c .table .on)) (holds (c .table .free)) d is, pow-mono (accepted-small c e));
       }
 
-  each-counted : (bytes : List ℕ) → Mem bytes (recordsHanded c) → Counted (c .table) bytes
+  each-counted : (bytes : List ℕ) → Mem bytes (recordsHanded c) → CountedRecord (c .table) bytes
   each-counted bytes m =
       let d = map-mem (recordIn (c .table)) primes bytes (subst (Mem bytes) handed-are m) in
-      subst (Counted (c .table)) (sym (d .2)) (counted (d .0) (d .1))
+      subst (CountedRecord (c .table)) (sym (d .2)) (counted (d .0) (d .1))
 
   all-joined : flatMap (λ bytes. bytes) (recordsHanded c) ≡ handedOver c
   unfolding recordsOf

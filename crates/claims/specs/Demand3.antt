@@ -16,8 +16,8 @@ use Rattle.table.specs.Refusal.{NoneApplies}
 use Rattle.cubes.specs.Lists.{keep}
 use Rattle.cubes.specs.Cubes.{Candidate, pointsOf, Only}
 use Rattle.cubes.specs.Candidates.{Before, candidates}
-use Rattle.cubes.specs.Records.{recordLength}
-use Rattle.cubes.specs.Listing.{Table, Call, recordIn, recordsOf, listingTests, listing, listingAnswer}
+use Rattle.cubes.specs.Records.{recordLength, candidateBytes}
+use Rattle.cubes.specs.Listing.{Table, Call, recordsOf, listingTests, listing, listingAnswer}
 use Rattle.cubes.specs.Calls.{handedOver, Obeyed, Refused, primesBehind, endOf, PrimeOf}
 
 -- ---- lists of calls
@@ -78,13 +78,14 @@ pub record Demand3 (t : Table) (calls : List Call) : Type 0 where
   pub last : (before : List Call) (c : Call) (after : List Call) → calls ≡ before ++ (c ∷ after) → listingAnswer c .refusal ≡ 0
       → ((d : Call) → Mem d after → listingAnswer d .refusal ≢ 0) → listingAnswer c .next ≡ reached 0 calls
   pub passed : sumOf (λ c. listingAnswer c .passed) calls ≡ reached 0 calls
-  -- What was handed over, joined: the records of the primes among the candidates passed so far, in the stated order, each exactly once.
+  -- What was handed over, joined: the records of the primes among the candidates passed so far, in the stated order, each exactly once: no two have the same
+  -- degree, least point and basis.
   pub handed : flatMap handedOver calls ≡ recordsOf t (primesBehind t (reached 0 calls))
   pub number : sumOf (λ c. listingAnswer c .records) calls ≡ length (primesBehind t (reached 0 calls))
   pub exact : (c : Candidate) → Mem c (primesBehind t (reached 0 calls))
       ↔ (Mem c (take (reached 0 calls) (candidates (t .variables))) × PrimeOf t (pointsOf c))
   pub order : Ordered Before (primesBehind t (reached 0 calls))
-  pub once : Ordered (λ a b. recordIn t a ≢ recordIn t b) (primesBehind t (reached 0 calls))
+  pub once : Ordered (λ a b. candidateBytes a ≢ candidateBytes b) (primesBehind t (reached 0 calls))
   -- At the end: every prime that the table has, as a set of points, is the set of exactly one record.
   pub whole : reached 0 calls ≡ endOf t → (C : ℕ → Bool) → PrimeOf t C → Only (t .variables) C (primesBehind t (reached 0 calls))
   -- Short of the end, an accepted call with an allowance and room for a record moves on; so as many such calls as candidates reach the end.

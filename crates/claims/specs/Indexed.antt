@@ -4,7 +4,7 @@
 -- It is a claim about the running calls. The contracts of `glospruma_index_build`, `glospruma_index_append` and `glospruma_index_remove`
 -- (crates/glospruma/src/lib.rt) say that the numbers they return are `buildAnswer`, `appendAnswer` and `removeAnswer` of their arguments, that the lent list holds
 -- `buildAfter`, `appendListAfter` and `removeListAfter` of them, and the lent room `appendAfter` and `removeAfter`, which are all that is spoken of here.
--- Read next: Rooms.
+-- Read next: PrimeCounts.
 use mathlib.Core.Path.{_≡_}
 use mathlib.Core.Bool.{Bool, true, false, cond}
 use mathlib.Core.Logic.{_≢_, _↔_}

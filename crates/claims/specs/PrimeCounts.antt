@@ -1,6 +1,9 @@
 -- Document 02, No. 6: the number of on points in each prime, said of the bytes that a listing call leaves in its room; and that with room for as many
 -- records the rest of the answer is that of document 01's rule, under which a record has eight bytes. Demand 3, about lists of calls, reads with the new
--- record. Read next: Rooms.
+-- record.
+--
+-- It is a claim about the running call, whose contract (crates/glospruma/src/lib.rt) says that the numbers it returns are `listingAnswer` of its arguments
+-- and that its room holds `listingAfter` of them. Read next: Rooms.
 use mathlib.Core.Path.{_≡_}
 use mathlib.Core.Bool.{Bool}
 use mathlib.Core.List.{List, [], _∷_, map, flatMap}
@@ -32,7 +35,7 @@ abbrev pub ninthByte : List ℕ → ℕ
 ninthByte bytes = getD bytes 8 0
 
 -- A record of nine bytes that tells a prime of the table, and how many of the points that the table lists as on are in it, 1 to 64.
-pub record Counted (t : Table) (bytes : List ℕ) : Type 0 where
+pub record CountedRecord (t : Table) (bytes : List ℕ) : Type 0 where
   pub nine : length bytes ≡ 9
   pub prime : PrimeOf t (setTold bytes)
   pub count : ninthByte bytes ≡ length (keep (setTold bytes) (t .on))
@@ -45,7 +48,7 @@ pub record Counted (t : Table) (bytes : List ℕ) : Type 0 where
 abbrev pub withRoom : Call → List ℕ → Call
 withRoom c room = record { table = c .table; place = c .place; allowance = c .allowance; room = room }
 
--- How far it went, its numbers and its room by document 01, with a candidate's eight bytes for a record.
+-- Its numbers and its room by document 01, with a candidate's eight bytes for a record.
 abbrev pub answerBefore : Call → Answer
 answerBefore c = listingAnswerBy 8 c
 
@@ -61,9 +64,9 @@ AsManyRecords room before = length room / 9 ≡ length before / 8
 -- Of every call, refused ones too.
 pub record PrimeCounts (c : Call) : Type 0 where
   -- Each record handed over is counted, and there is nothing else in what is handed over.
-  pub each : (bytes : List ℕ) → Mem bytes (recordsHanded c) → Counted (c .table) bytes
+  pub each : (bytes : List ℕ) → Mem bytes (recordsHanded c) → CountedRecord (c .table) bytes
   pub joined : flatMap (λ bytes. bytes) (recordsHanded c) ≡ handedOver c
-  -- The rule before says of records of eight bytes what the rule says of nine.
+  -- How far a call went before is what the listing rule says for records of eight bytes.
   pub rule-before : (before : List ℕ)
       → ListingRule 8 (primeOf (c .table)) (aheadOf c) (c .allowance) (length before) (listingBy 8 (withRoom c before))
   -- With room for as many records, the numbers returned are those of the rule before, places and passed counts among them; and so are the first eight bytes

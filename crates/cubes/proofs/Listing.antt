@@ -31,15 +31,25 @@ use Rattle.cubes.proofs.Candidates.{candidate-is}
 -- ---- records
 
 -- Lists of b numbers each, joined.
-pub flat-length : {A : Type 0} (f : A → List ℕ) (b : ℕ) (l : List A) → ((a : A) → Mem a l → length (f a) ≡ b) → length (flatMap f l) ≡ b * length l
+joined-length : {A : Type 0} (f : A → List ℕ) (b : ℕ) (l : List A) → ((a : A) → Mem a l → length (f a) ≡ b) → length (flatMap f l) ≡ b * length l
 unfolding flatMap
-flat-length f b [] h = omega arith
-flat-length f b (a ∷ l) h = omega (arith, length-append (f a) (flatMap f l), h a (inl refl), flat-length f b l (λ c m. h c (inr m)))
+joined-length f b [] h = omega arith
+joined-length f b (a ∷ l) h = omega (arith, length-append (f a) (flatMap f l), h a (inl refl), joined-length f b l (λ c m. h c (inr m)))
 
 pub candidate-length : (c : Candidate) → degree c ≤ maxListed → length (candidateBytes c) ≡ candidateLength
 unfolding candidateBytes
 candidate-length c h =
     omega (arith, length-append (c .vectors) (replicate (candidateLength - (2 + degree c)) 0), length-replicate {A = ℕ} (candidateLength - (2 + degree c)) 0)
+
+-- Bytes that begin with those of a candidate tell it; so no two candidates have the same bytes.
+bytes-tell : (c : Candidate) (rest : List ℕ) → candidateTold (candidateBytes c ++ rest) ≡ c
+unfolding candidateBytes
+bytes-tell c rest =
+    ap (candidate (c .point)) (ap (take (degree c)) (append-assoc (c .vectors) (replicate (candidateLength - (2 + degree c)) 0) rest)
+    ∙ take-at (c .vectors) (replicate (candidateLength - (2 + degree c)) 0 ++ rest) (degree c) refl)
+
+pub bytes-one : (a b : Candidate) → candidateBytes a ≡ candidateBytes b → a ≡ b
+bytes-one a b e = sym (bytes-tell a []) ∙ ap (λ l. candidateTold (l ++ [])) e ∙ bytes-tell b []
 
 module _ (n : ℕ) (on : ℕ → Bool) where
   pub record-length : (c : Candidate) → degree c ≤ maxListed → length (recordOf n on c) ≡ recordLength
@@ -57,14 +67,9 @@ module _ (n : ℕ) (on : ℕ → Bool) where
       ap (λ (k : ℕ). getD (candidateBytes c ++ (onCount n on c ∷ [])) k 0) (sym (candidate-length c h)) ∙ getD-append-seam (candidateBytes c) (onCount n on c) [] 0
 
   -- A record tells its candidate.
-  pub record-tells : (c : Candidate) → candidateTold (recordOf n on c) ≡ c
-  unfolding recordOf candidateBytes
-  record-tells c =
-      ap (candidate (c .point)) (ap (take (degree c)) (append-assoc (c .vectors) (replicate (candidateLength - (2 + degree c)) 0) (onCount n on c ∷ []))
-      ∙ take-at (c .vectors) (replicate (candidateLength - (2 + degree c)) 0 ++ (onCount n on c ∷ [])) (degree c) refl)
-
-  pub record-one : (a b : Candidate) → recordOf n on a ≡ recordOf n on b → a ≡ b
-  record-one a b e = sym (record-tells a) ∙ ap candidateTold e ∙ record-tells b
+  pub record-told : (c : Candidate) → candidateTold (recordOf n on c) ≡ c
+  unfolding recordOf
+  record-told c = bytes-tell c (onCount n on c ∷ [])
 
 pub records-append : (t : Table) (l m : List Candidate) → recordsOf t (l ++ m) ≡ recordsOf t l ++ recordsOf t m
 unfolding recordsOf
@@ -72,7 +77,7 @@ records-append t = flatMap-append (recordIn t)
 
 pub records-length : (t : Table) (l : List Candidate) → ((c : Candidate) → Mem c l → degree c ≤ maxListed) → length (recordsOf t l) ≡ recordLength * length l
 unfolding recordsOf
-records-length t l h = flat-length (recordIn t) recordLength l (λ c m. record-length (t .variables) (holds (t .on)) c (h c m))
+records-length t l h = joined-length (recordIn t) recordLength l (λ c m. record-length (t .variables) (holds (t .on)) c (h c m))
 
 -- ---- the listing rule
 

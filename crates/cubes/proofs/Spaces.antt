@@ -82,9 +82,9 @@ select-some f m = (
 
 module _ (n : ℕ) (on free : ℕ → Bool) (c : Candidate) (k : IsCandidate n c) where
   -- The number of on points is that of a selection, and at most that of all points; it isn't 0 exactly if the candidate holds an on point.
-  pub count-most : onCount n on c ≤ 2 ^ n
+  pub on-count-most : onCount n on c ≤ 2 ^ n
   unfolding onCount
-  count-most = select-length (λ x. pointsOf c x && on x) (2 ^ n)
+  on-count-most = select-length (λ x. pointsOf c x && on x) (2 ^ n)
 
   pub count-held : (somePoint on (c .vectors) (c .point) ≡ true) ↔ (0 < onCount n on c)
   unfolding onCount

@@ -108,7 +108,7 @@ pub record ListingRule (bytes : ℕ) (prime : Candidate → Bool) (ahead : List 
 abbrev pub aheadOf : Call → List Candidate
 aheadOf c = drop (c .place) (candidates (c .table .variables))
 
--- How far a call goes with records of so many bytes; and with records of nine, as they are.
+-- How far a call goes with records of so many bytes, and of nine.
 unfoldable pub listingBy : ℕ → Call → Passage
 listingBy bytes c = passage bytes (primeOf (c .table)) (aheadOf c) (c .allowance) (length (c .room))
 
@@ -132,7 +132,7 @@ listingRefused k = record { refusal = k; next = 0; passed = 0; records = 0 }
 abbrev pub listingAccepted : ℕ → Passage → Answer
 listingAccepted place p = record { refusal = 0; next = place + p .passed; passed = p .passed; records = length (p .primes) }
 
--- The decision over a call, in general and as it is.
+-- The decision over a call with records of so many bytes, and of nine.
 abbrev pub listingCallBy : ℕ → Call → Decision Answer
 listingCallBy bytes c = record { tests = listingTests c; accepted = listingAccepted (c .place) (listingBy bytes c); refused = listingRefused }
 
@@ -142,8 +142,8 @@ listingCall c = listingCallBy recordLength c
 unfoldable pub listingAnswerBy : ℕ → Call → Answer
 listingAnswerBy bytes c = answerOf (listingCallBy bytes c)
 
--- The room as a call returns that writes each prime so, in so many bytes: the records at its front and bytes after the last record as lent; unchanged
--- by a refusal.
+-- The room as a call returns, where a record has so many bytes and `written` gives it: the records at its front and bytes after the last record as lent;
+-- unchanged by a refusal.
 unfoldable pub listingAfterBy : ℕ → (Candidate → List ℕ) → Call → List ℕ
 listingAfterBy bytes written c = afterOf (listingCallBy bytes c) (flatMap written (listingBy bytes c .primes)) (c .room)
 

@@ -22,7 +22,7 @@ recordLength = 9
 unfoldable pub candidateBytes : Candidate → List ℕ
 candidateBytes c = degree c ∷ c .point ∷ c .vectors ++ replicate (candidateLength - (2 + degree c)) 0
 
--- The number of on points in a candidate. Points that are free alone don't count.
+-- The number of on points in a candidate. Free points don't count.
 unfoldable pub onCount : ℕ → (ℕ → Bool) → Candidate → ℕ
 onCount n on c = size n (λ x. pointsOf c x && on x)
 
@@ -30,6 +30,6 @@ onCount n on c = size n (λ x. pointsOf c x && on x)
 unfoldable pub recordOf : ℕ → (ℕ → Bool) → Candidate → List ℕ
 recordOf n on c = candidateBytes c ++ (onCount n on c ∷ [])
 
--- The candidate that the bytes of a record tell. That it is the one they were written for is `record-tells`.
+-- The candidate that the bytes of a record tell. That it is the one they were written for is `record-told`.
 abbrev pub candidateTold : List ℕ → Candidate
 candidateTold bytes = candidate (getD bytes 1 0) (take (getD bytes 0 0) (drop 2 bytes))

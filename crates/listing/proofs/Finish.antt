@@ -23,7 +23,7 @@ use Rattle.listing.specs.declared.FirstPoint.{FirstPoint}
 use Rattle.masks.specs.Points.{MaskOf}
 use Rattle.listing.specs.Starts.{StartsAt, PointAt}
 use Rattle.walk.specs.Places.{fromPoint}
-use Rattle.walk.specs.Walk.{starting, State, state, walk, walkBy}
+use Rattle.walk.specs.Walk.{starting, State, state, walk, walkMasked}
 use Rattle.listing.specs.Answers.{tableOf, callOf}
 use Rattle.listing.proofs.Ends.{EndsAs, walk-is}
 use Rattle.listing.proofs.Refusals.{sound-call, sound-few}
@@ -38,7 +38,7 @@ module _ (c : Call) (k : ℕ) (e : k ≡ listingFault c) (z : k ≢ 0) where
 
 -- The masks give the same test and the same records.
 masks-walk : (n : ℕ) (on free : List ℕ) (onMask freeMask : ℕ) → MaskOf on onMask → MaskOf free freeMask
-    → walkBy n onMask freeMask ≡ walk (primeOf (tableOf n on free)) (recordIn (tableOf n on free))
+    → walkMasked n onMask freeMask ≡ walk (primeOf (tableOf n on free)) (recordIn (tableOf n on free))
 masks-walk n on free onMask freeMask a b = ap₂ (λ (f g : ℕ → Bool). walk (isPrime n f g) (recordOf n f)) (fun-ext a) (fun-ext b)
 
 -- The numbers of an accepted call, from those it counts.
@@ -55,7 +55,7 @@ pub record Finished (n : ℕ) (on free : List ℕ) (place allowance : ℕ) (lent
 module _ (n : ℕ) (on free : List ℕ) (place allowance : ℕ) (room : List ℕ) (e : listingFault (callOf n on free place allowance room) ≡ 0)
     (start : Start) (s : StartsAt n place start) (first : FirstPoint) (f : PointAt n (start .degree) (start .skip) first)
     (onMask freeMask : ℕ) (a : MaskOf on onMask) (b : MaskOf free freeMask)
-    (u : State) (w : u ≡ walkBy n onMask freeMask (drop (first .skip) (fromPoint n (start .degree) (first .point))) (state (starting allowance) room)) where
+    (u : State) (w : u ≡ walkMasked n onMask freeMask (drop (first .skip) (fromPoint n (start .degree) (first .point))) (state (starting allowance) room)) where
   this : Call
   this = callOf n on free place allowance room
 

@@ -108,9 +108,9 @@ fn start_at(n: usize, place: u64) -> Start
     Start { degree, skip }
 }
 
-// The first least point of a listing, and how many candidates of its degree from that point on are behind it.
+// The first least point of a listing, and how many candidates from that point on are still to be skipped.
 pub struct FirstPoint {
-    pub point: usize,
+    pub point: u64,
     pub skip: u64,
 }
 
@@ -121,11 +121,11 @@ fn point_at(n: usize, degree: usize, skip: u64) -> FirstPoint
     ensures { λ r. ⌜ PointAt n degree skip r ⌝ }
 {
     let counts = point_counts::table();
-    let last = (1 << n) - 1;
+    let last: u64 = (1 << n) - 1;
     let mut point = 0;
     let mut left = skip;
     while point < last {
-        let count = point_counts::point_count(&counts, n, degree, point);
+        let count = point_counts::candidates_at_point(&counts, n, degree, point);
         if left < count {
             return FirstPoint { point, skip: left };
         }
@@ -191,15 +191,16 @@ pub fn list_primes(
         free_mask,
         n,
         start.degree,
-        first.point as u64,
+        first.point,
         first.skip,
         allowance,
         &mut *room,
     );
     let passed = allowance - tally.left;
+    let next = place + passed;
     Listed {
         refusal: 0,
-        next: place + passed,
+        next,
         passed,
         records: tally.written,
     }

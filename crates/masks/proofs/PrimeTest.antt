@@ -25,7 +25,7 @@ use Rattle.cubes.specs.Cubes.{size}
 use Rattle.cubes.specs.Primes.{everyPoint, allowed}
 use Rattle.cubes.specs.Records.{maxListed, onCount, recordOf}
 use Rattle.cubes.proofs.Cubes.{select-step, vectors-below}
-use Rattle.cubes.proofs.Spaces.{count-most, prime-count, prime-holds, prime-some}
+use Rattle.cubes.proofs.Spaces.{on-count-most, prime-count, prime-holds, prime-some}
 use Rattle.bases.specs.Bases.{vectorsOf}
 use Rattle.bases.specs.Entry.{candidateAt, EntryAt}
 use Rattle.bases.proofs.Entry.{vectors-length, entry-candidate, entry-written}
@@ -120,9 +120,9 @@ module _ {n d p e : ℕ} (k : EntryAt n d p e) where
     count-more h = no-prime (λ t.
         h (ones-inside ∙ prime-count n (λ x. bit x on) (λ x. bit x free) (candidateAt d p e) (entry-candidate k) .0 t .2 ∙ ap (λ (z : ℕ). 2 ^ z) (vectors-length d e)))
 
-    pub count-held : inside / 2 ^ p % 2 ≢ 0 → ones inside ≡ 2 ^ d → ones (bitAnd inside on) ≡ countBy n on free (candidateAt d p e)
+    pub count-inside : inside / 2 ^ p % 2 ≢ 0 → ones inside ≡ 2 ^ d → ones (bitAnd inside on) ≡ countBy n on free (candidateAt d p e)
     unfolding insideAt
-    count-held h o =
+    count-inside h o =
         let one : inside / 2 ^ p % 2 ≡ 1 = omega (arith, h) in
         let i : insideAt p ≡ true = sym own-coset ∙ ap (λ (z : ℕ). eqb z 1) one in
         ones-on ∙ prime-holds n (λ x. bit x on) (λ x. bit x free) (candidateAt d p e) (entry-candidate k) i (sym ones-inside ∙ o ∙ ap (λ (z : ℕ). 2 ^ z) (sym (vectors-length d e)))
@@ -131,8 +131,8 @@ module _ {n d p e : ℕ} (k : EntryAt n d p e) where
 
 module _ {n d p e : ℕ} (on free : ℕ) (k : EntryAt n d p e) (r : ℕ) (q : r ≡ countBy n on free (candidateAt d p e)) where
   -- The candidate is a prime exactly if the count isn't 0.
-  pub count-prime : not (eqb r 0) ≡ primeBy n on free (candidateAt d p e)
-  count-prime = ap (λ (z : ℕ). not (eqb z 0)) q ∙ go (primeBy n on free (candidateAt d p e)) refl
+  pub count-nonzero : not (eqb r 0) ≡ primeBy n on free (candidateAt d p e)
+  count-nonzero = ap (λ (z : ℕ). not (eqb z 0)) q ∙ go (primeBy n on free (candidateAt d p e)) refl
     where
       go : (t : Bool) → primeBy n on free (candidateAt d p e) ≡ t → not (eqb (cond t (onCount n (λ x. bit x on) (candidateAt d p e)) 0) 0) ≡ t
       go true u = ap not (ne-eqb (onCount n (λ x. bit x on) (candidateAt d p e)) 0 (λ z.
@@ -140,18 +140,18 @@ module _ {n d p e : ℕ} (on free : ℕ) (k : EntryAt n d p e) (r : ℕ) (q : r 
       go false u = refl
 
   pub count-none : r ≡ 0 → primeBy n on free (candidateAt d p e) ≡ false
-  count-none h = sym count-prime ∙ ap (λ (z : ℕ). not (eqb z 0)) h
+  count-none h = sym count-nonzero ∙ ap (λ (z : ℕ). not (eqb z 0)) h
 
   module _ (h : r ≢ 0) where
     pub count-some : primeBy n on free (candidateAt d p e) ≡ true
-    count-some = sym count-prime ∙ ap not (ne-eqb r 0 h)
+    count-some = sym count-nonzero ∙ ap not (ne-eqb r 0 h)
 
     -- Then it is the number of on points in it, at most 64, which the record ends with.
     count-of : r ≡ onCount n (λ x. bit x on) (candidateAt d p e)
     count-of = q ∙ ap (λ (t : Bool). cond t (onCount n (λ x. bit x on) (candidateAt d p e)) 0) count-some
 
     pub count-small : r ≤ maskSize
-    count-small = omega (arith, count-of, count-most n (λ x. bit x on) (λ x. bit x free) (candidateAt d p e) (entry-candidate k), pow-mono (k .few))
+    count-small = omega (arith, count-of, on-count-most n (λ x. bit x on) (λ x. bit x free) (candidateAt d p e) (entry-candidate k), pow-mono (k .few))
 
     pub count-record : (d ∷ p ∷ vectorsOf 6 e) ++ (r ∷ []) ≡ recordBy n on (candidateAt d p e)
     unfolding recordOf

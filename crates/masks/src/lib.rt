@@ -8,7 +8,7 @@ ghost use Rattle.masks.specs.Points.{OfPoints, primeBy, countBy};
 
 // The number of on points in the candidate of an entry if it is a prime, and 0 if it is none. Its coset has to lie inside on plus free, as the only one
 // of its space that does; then the points whose coset lies inside are its own, and those of them that are on are counted.
-pub fn prime_count(on: u64, free: u64, n: usize, d: usize, p: u64, entry: u64) -> u32
+pub fn count_in_prime(on: u64, free: u64, n: usize, d: usize, p: u64, entry: u64) -> u32
     requires { ⌜ OfPoints n on ⌝ }
     requires { ⌜ OfPoints n free ⌝ }
     requires { ⌜ EntryAt n d p entry ⌝ }
@@ -31,5 +31,5 @@ pub fn is_prime(on: u64, free: u64, n: usize, d: usize, p: u64, entry: u64) -> b
     requires { ⌜ EntryAt n d p entry ⌝ }
     ensures { λ r. ⌜ r ≡ primeBy n on free (candidateAt d p entry) ⌝ }
 {
-    prime_count(on, free, n, d, p, entry) != 0
+    count_in_prime(on, free, n, d, p, entry) != 0
 }

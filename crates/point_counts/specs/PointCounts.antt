@@ -1,9 +1,9 @@
--- How many reduced bases of six variables have none of some lead bits: a constant. Read next: the crate's proofs.
+-- How many reduced bases of six variables have none of some lead bits: a constant. Read next: crate `listing`.
 use mathlib.Core.List.{List, [], _∷_}
 use Prim.Native.Nat.{ℕ}
 
 -- 64 numbers for each number d of vectors from 0 to 6: at place 64 d + a, how many of the bases of d vectors have none of the bits of a as a lead bit.
--- That so many candidates have a least point is `point-count`.
+-- That this is how many candidates have a given least point is `point-count`.
 unfoldable pub pointCounts : List ℕ
 pointCounts =
     1 ∷ 1 ∷ 1 ∷ 1 ∷ 1 ∷ 1 ∷ 1 ∷ 1 ∷ 1 ∷ 1 ∷ 1 ∷ 1 ∷ 1 ∷ 1 ∷ 1 ∷ 1 ∷ 1 ∷ 1 ∷ 1 ∷ 1 ∷ 1 ∷ 1 ∷ 1 ∷ 1 ∷ 1 ∷ 1 ∷ 1 ∷ 1 ∷ 1 ∷ 1 ∷ 1 ∷ 1 ∷ 1 ∷ 1 ∷ 1 ∷ 1 ∷

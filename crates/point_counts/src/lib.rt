@@ -475,13 +475,13 @@ fn wide(count: u16) -> u64
 }
 
 // How many candidates of n variables and degree d have the least point p: bases of d vectors with no lead bit of p's, nor one beyond n variables.
-pub fn point_count(counts: &[u16; COUNT_LENGTH], n: usize, d: usize, p: usize) -> u64
+pub fn candidates_at_point(counts: &[u16; COUNT_LENGTH], n: usize, d: usize, p: u64) -> u64
     requires { ⌜ now counts ≡ pointCounts ⌝ }
     requires { ⌜ n ≤ maxListed ⌝ }
     requires { ⌜ d ≤ maxListed ⌝ }
     requires { ⌜ p < 2 ^ n ⌝ }
     ensures { λ r. ⌜ r ≡ length (candidatesAt n d p) ⌝ }
 {
-    let avoided = p + (64 - (1 << n));
+    let avoided = bases::avoided(n, p) as usize;
     wide(counts[d * 64 + avoided])
 }

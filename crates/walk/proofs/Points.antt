@@ -9,7 +9,7 @@ use lib.ListN.{length, getD, drop, length-append, List·getD-append, drop-of-len
 use lib.Seq.{drop-cons, drop-append-add, getD-append-seam}
 use Rattle.gf2.specs.Finite.{select}
 use Rattle.cubes.specs.Candidates.{points, candidatesAt, candidatesOf, candidatesFrom}
-use Rattle.walk.specs.Places.{lower, fromPoint}
+use Rattle.walk.specs.Places.{lowerDegrees, fromPoint}
 
 -- ---- the points
 
@@ -34,7 +34,7 @@ points-cons n p h = drop-cons (points n) p 0 (omega (arith, points-length (2 ^ n
 
 -- A degree begins with its first point.
 pub point-first : (n d : ℕ) → candidatesFrom n d ≡ fromPoint n d 0
-unfolding candidatesFrom candidatesOf lower fromPoint
+unfolding candidatesFrom candidatesOf lowerDegrees fromPoint
 point-first n zero = sym (append-nil (flatMap (candidatesAt n 0) (points n)))
 point-first n (suc d) = refl
 
@@ -42,8 +42,8 @@ point-first n (suc d) = refl
 pub point-cons : (n d p : ℕ) → p < 2 ^ n → fromPoint n d p ≡ candidatesAt n d p ++ fromPoint n d (suc p)
 unfolding fromPoint flatMap
 point-cons n d p h =
-    ap (λ l. flatMap (candidatesAt n d) l ++ lower n d) (points-cons n p h)
-    ∙ append-assoc (candidatesAt n d p) (flatMap (candidatesAt n d) (drop (suc p) (points n))) (lower n d)
+    ap (λ l. flatMap (candidatesAt n d) l ++ lowerDegrees n d) (points-cons n p h)
+    ∙ append-assoc (candidatesAt n d p) (flatMap (candidatesAt n d) (drop (suc p) (points n))) (lowerDegrees n d)
 
 -- So a whole point can be passed at once.
 pub point-passed : (n d p skip count : ℕ) → p < 2 ^ n → count ≡ length (candidatesAt n d p) → count ≤ skip
@@ -54,6 +54,6 @@ point-passed n d p skip count h e l =
     ∙ drop-append-add (candidatesAt n d p) (fromPoint n d (suc p)) (skip - count)
 
 -- Beyond the last point there are those of a lower degree.
-pub point-beyond : (n d p : ℕ) → 2 ^ n ≤ p → fromPoint n d p ≡ lower n d
+pub point-beyond : (n d p : ℕ) → 2 ^ n ≤ p → fromPoint n d p ≡ lowerDegrees n d
 unfolding fromPoint flatMap
-point-beyond n d p h = ap (λ l. flatMap (candidatesAt n d) l ++ lower n d) (drop-of-length-le (points n) {i = p} (omega (arith, points-length (2 ^ n))))
+point-beyond n d p h = ap (λ l. flatMap (candidatesAt n d) l ++ lowerDegrees n d) (drop-of-length-le (points n) {i = p} (omega (arith, points-length (2 ^ n))))

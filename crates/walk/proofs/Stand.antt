@@ -20,8 +20,8 @@ use Rattle.walk.specs.declared.Tally.{Tally}
 use Rattle.masks.specs.Points.{primeBy, recordBy}
 use Rattle.bases.specs.Entry.{candidateAt, EntryAt}
 use Rattle.bases.proofs.Bounds.{bounds, entry-mem}
-use Rattle.walk.specs.Places.{lower, fromPoint, placed, FirstTaken}
-use Rattle.walk.specs.Walk.{State, state, walk, passBy, walkBy}
+use Rattle.walk.specs.Places.{lowerDegrees, fromPoint, placed, FirstTaken}
+use Rattle.walk.specs.Walk.{State, state, walk, passMasked, walkMasked}
 use Rattle.walk.proofs.Points.{point-first, point-cons, point-beyond}
 use Rattle.walk.proofs.Rows.{placed-taken}
 use Rattle.walk.proofs.Steps.{Kept, pass-kept, walk-on, walk-stop}
@@ -44,7 +44,7 @@ ahead-done : (n d p : ℕ) → ahead n d p (stop d) ≡ fromPoint n d (suc p)
 unfolding ahead keep
 ahead-done n d p = ap (λ l. map (candidateAt d p) (keep (takesPoint n p) l) ++ fromPoint n d (suc p)) (slice-empty (stop d) entries)
 
-ahead-last : (n d p : ℕ) → 2 ^ n ≤ suc p → ahead n d p (stop d) ≡ lower n d
+ahead-last : (n d p : ℕ) → 2 ^ n ≤ suc p → ahead n d p (stop d) ≡ lowerDegrees n d
 ahead-last n d p h = ahead-done n d p ∙ point-beyond n d (suc p) h
 
 ahead-same : (n d p i skip : ℕ) (r : TakenEntry) → FirstTaken n d p i skip r → drop skip (ahead n d p i) ≡ drop (r .skip) (ahead n d p (r .at))
@@ -55,8 +55,8 @@ ahead-cons : (n d p i : ℕ) → d ≤ 6 → i < stop d → takesPoint n p (getD
 unfolding ahead
 ahead-cons n d p i hd h t = placed-taken n d p i hd h (fromPoint n d (suc p)) t
 
-lower-ahead : (n : ℕ) → n ≤ 6 → (d : ℕ) → d ≤ 6 → 0 < d → lower n d ≡ ahead n (d - 1) 0 (start (d - 1))
-unfolding lower
+lower-ahead : (n : ℕ) → n ≤ 6 → (d : ℕ) → d ≤ 6 → 0 < d → lowerDegrees n d ≡ ahead n (d - 1) 0 (start (d - 1))
+unfolding lowerDegrees
 lower-ahead n six zero hd h = absurd (omega arith)
 lower-ahead n six (suc d) hd h = let q : d ≡ suc d - 1 = omega arith in ahead-degree n d six (omega arith) ∙ ap (λ (k : ℕ). ahead n k 0 (start k)) q
 
@@ -64,7 +64,7 @@ lower-ahead n six (suc d) hd h = let q : d ≡ suc d - 1 = omega arith in ahead-
 
 -- The walk from here, without the candidates that are still to be skipped, ends as the whole walk does.
 pub record Stand (n on free long : ℕ) (goal : State) (skip d p i : ℕ) (s : State) : Type 0 where
-  pub same : walkBy n on free (drop skip (ahead n d p i)) s ≡ goal
+  pub same : walkMasked n on free (drop skip (ahead n d p i)) s ≡ goal
   pub few : n ≤ 6
   pub short : d ≤ n
   pub point : p < 2 ^ n
@@ -73,9 +73,9 @@ pub record Stand (n on free long : ℕ) (goal : State) (skip d p i : ℕ) (s : S
   pub kept : Kept long s
 
 pub stand-start : (n on free degree point skip i : ℕ) (t : Tally) (room : List ℕ) → n ≤ 6 → degree ≤ n → point < 2 ^ n → i ≡ start degree → t .written ≡ 0
-    → Stand n on free (length room) (walkBy n on free (drop skip (fromPoint n degree point)) (state t room)) skip degree point i (state t room)
+    → Stand n on free (length room) (walkMasked n on free (drop skip (fromPoint n degree point)) (state t room)) skip degree point i (state t room)
 stand-start n on free degree point skip i t room h k l e w = record {
-  same = ap (λ l. walkBy n on free (drop skip l) (state t room)) (sym (ahead-from n degree point h (omega arith) l ∙ ap (ahead n degree point) (sym e)));
+  same = ap (λ l. walkMasked n on free (drop skip l) (state t room)) (sym (ahead-from n degree point h (omega arith) l ∙ ap (ahead n degree point) (sym e)));
   few = h;
   short = k;
   point = l;
@@ -95,8 +95,8 @@ module _ {n on free long : ℕ} {goal : State} {skip d p i : ℕ} {s : State} (t
   small = omega (arith, t .point, pow-mono (t .few))
 
   module _ {r : TakenEntry} (f : FirstTaken n d p i skip r) where
-    here : walkBy n on free (drop (r .skip) (ahead n d p (r .at))) s ≡ goal
-    here = ap (λ l. walkBy n on free l s) (sym (ahead-same n d p i skip r f)) ∙ t .same
+    here : walkMasked n on free (drop (r .skip) (ahead n d p (r .at))) s ≡ goal
+    here = ap (λ l. walkMasked n on free l s) (sym (ahead-same n d p i skip r f)) ∙ t .same
 
     -- At an entry that is taken: nothing is left to skip.
     module _ {e : ℕ} (h : r .at < stop d) (q : e ≡ getD entries (r .at) 0) where
@@ -109,18 +109,18 @@ module _ {n on free long : ℕ} {goal : State} {skip d p i : ℕ} {s : State} (t
         taken = subst (λ (z : ℕ). takesPoint n p z ≡ true) (sym q) (f .taken h .1);
       }
 
-      front : walkBy n on free (candidateAt d p e ∷ ahead n d p (r .at + 1)) s ≡ goal
+      front : walkMasked n on free (candidateAt d p e ∷ ahead n d p (r .at + 1)) s ≡ goal
       front =
-          ap (λ l. walkBy n on free l s)
+          ap (λ l. walkMasked n on free l s)
           (sym (ap (λ (k : ℕ). drop k (ahead n d p (r .at))) (f .taken h .0) ∙ ahead-cons n d p (r .at) six h (f .taken h .1) ∙ ap (λ (z : ℕ). candidateAt d p z ∷ ahead n d p (r .at + 1)) (sym q))) ∙ here
 
-      module _ {u : State} (v : u ≡ passBy n on free (candidateAt d p e) s) where
+      module _ {u : State} (v : u ≡ passMasked n on free (candidateAt d p e) s) where
         pub passed-kept : Kept long u
         passed-kept = subst (Kept long) (sym v) (pass-kept (primeBy n on free) (recordBy n on) (candidateAt d p e) long s (t .kept))
 
         pub to-entry : u .tally .stopped ≡ false → Stand n on free long goal (r .skip) d p (r .at + 1) u
         to-entry z = record {
-          same = ap (λ (k : ℕ). walkBy n on free (drop k (ahead n d p (r .at + 1))) u) (f .taken h .0)
+          same = ap (λ (k : ℕ). walkMasked n on free (drop k (ahead n d p (r .at + 1))) u) (f .taken h .0)
               ∙ sym (walk-on (primeBy n on free) (recordBy n on) (candidateAt d p e) (ahead n d p (r .at + 1)) s u v z) ∙ front;
           few = t .few;
           short = t .short;
@@ -140,7 +140,7 @@ module _ {n on free long : ℕ} {goal : State} {skip d p i : ℕ} {s : State} (t
 
       pub to-point : p + 1 < 2 ^ n → (j : ℕ) → j ≡ start d → Stand n on free long goal (r .skip) d (p + 1) j s
       to-point l j e = record {
-        same = ap (λ l. walkBy n on free (drop (r .skip) l) s)
+        same = ap (λ l. walkMasked n on free (drop (r .skip) l) s)
             (ap₂ (λ (q k : ℕ). ahead n d q k) (add-one p) e
             ∙ sym (ahead-from n d (suc p) (t .few) six (omega arith)) ∙ sym (ahead-done n d p) ∙ ap (ahead n d p) (sym ended)) ∙ here;
         few = t .few;
@@ -151,17 +151,17 @@ module _ {n on free long : ℕ} {goal : State} {skip d p i : ℕ} {s : State} (t
         kept = t .kept;
       }
 
-      beyond : 2 ^ n ≤ p + 1 → walkBy n on free (drop (r .skip) (lower n d)) s ≡ goal
-      beyond l = ap (λ l. walkBy n on free (drop (r .skip) l) s) (sym (ahead-last n d p (omega arith)) ∙ ap (ahead n d p) (sym ended)) ∙ here
+      beyond : 2 ^ n ≤ p + 1 → walkMasked n on free (drop (r .skip) (lowerDegrees n d)) s ≡ goal
+      beyond l = ap (λ l. walkMasked n on free (drop (r .skip) l) s) (sym (ahead-last n d p (omega arith)) ∙ ap (ahead n d p) (sym ended)) ∙ here
 
       pub at-end : 2 ^ n ≤ p + 1 → d ≡ 0 → s ≡ goal
-      unfolding lower walk
+      unfolding lowerDegrees walk
       at-end l z =
-          ap (λ l. walkBy n on free l s) (sym (drop-nil (r .skip)) ∙ ap (λ (k : ℕ). drop (r .skip) (lower n k)) (sym z)) ∙ beyond l
+          ap (λ l. walkMasked n on free l s) (sym (drop-nil (r .skip)) ∙ ap (λ (k : ℕ). drop (r .skip) (lowerDegrees n k)) (sym z)) ∙ beyond l
 
       pub to-degree : 2 ^ n ≤ p + 1 → 0 < d → (j : ℕ) → j ≡ start (d - 1) → Stand n on free long goal (r .skip) (d - 1) 0 j s
       to-degree l z j e = record {
-        same = ap (λ l. walkBy n on free (drop (r .skip) l) s) (ap (ahead n (d - 1) 0) e ∙ sym (lower-ahead n (t .few) d six z)) ∙ beyond l;
+        same = ap (λ l. walkMasked n on free (drop (r .skip) l) s) (ap (ahead n (d - 1) 0) e ∙ sym (lower-ahead n (t .few) d six z)) ∙ beyond l;
         few = t .few;
         short = omega (arith, t .short);
         point = pow-pos n;

@@ -15,13 +15,13 @@ use Rattle.bases.specs.Entry.{candidateAt}
 use Rattle.walk.specs.declared.TakenEntry.{TakenEntry}
 
 -- The candidates of less than degree d.
-unfoldable pub lower : ℕ → ℕ → List Candidate
-lower n zero = []
-lower n (suc d) = candidatesFrom n d
+unfoldable pub lowerDegrees : ℕ → ℕ → List Candidate
+lowerDegrees n zero = []
+lowerDegrees n (suc d) = candidatesFrom n d
 
 -- The candidates of degree d whose least point is p or a later one, and those of less than degree d.
 unfoldable pub fromPoint : ℕ → ℕ → ℕ → List Candidate
-fromPoint n d p = flatMap (candidatesAt n d) (drop p (points n)) ++ lower n d
+fromPoint n d p = flatMap (candidatesAt n d) (drop p (points n)) ++ lowerDegrees n d
 
 -- The entries of d vectors from place i on that are taken with the point p.
 abbrev pub takenFrom : ℕ → ℕ → ℕ → ℕ → List ℕ

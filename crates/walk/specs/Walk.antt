@@ -1,4 +1,4 @@
--- The listing rule of document 01, "Primes", as a walk: what each candidate changes, and all of them in order. Read next: crate `listing`.
+-- The listing rule of document 01, "Primes", as a walk: what each candidate changes, and all of them in order. Read next: crate `point_counts`.
 use mathlib.Core.Bool.{Bool, true, false, cond}
 use mathlib.Core.List.{List, [], _∷_}
 use Prim.Native.Nat.{ℕ, _+_, _-_, _*_}
@@ -33,7 +33,7 @@ abbrev pub state : Tally → List ℕ → State
 state t room = record { tally = t; room = room }
 
 -- One candidate: the walk stops if the allowance is spent, or before a prime that no longer fits,
--- and otherwise passes it, and writes the record of a prime, which the test and the records tell, after the others.
+-- and otherwise passes it, and writes the record of a prime after the others. `prime` tests a candidate, `recorded` gives its record.
 unfoldable pub pass : (Candidate → Bool) → (Candidate → List ℕ) → Candidate → State → State
 pass prime recorded c s =
     cond (eqb (s .tally .left) 0) (state (stopping (s .tally)) (s .room))
@@ -48,8 +48,8 @@ walk prime recorded [] s = s
 walk prime recorded (c ∷ cs) s = cond (pass prime recorded c s .tally .stopped) (pass prime recorded c s) (walk prime recorded cs (pass prime recorded c s))
 
 -- Both for the points of n variables that two masks hold.
-abbrev pub passBy : ℕ → ℕ → ℕ → Candidate → State → State
-passBy n on free = pass (primeBy n on free) (recordBy n on)
+abbrev pub passMasked : ℕ → ℕ → ℕ → Candidate → State → State
+passMasked n on free = pass (primeBy n on free) (recordBy n on)
 
-abbrev pub walkBy : ℕ → ℕ → ℕ → List Candidate → State → State
-walkBy n on free = walk (primeBy n on free) (recordBy n on)
+abbrev pub walkMasked : ℕ → ℕ → ℕ → List Candidate → State → State
+walkMasked n on free = walk (primeBy n on free) (recordBy n on)

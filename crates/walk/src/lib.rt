@@ -1,6 +1,6 @@
 // The walk over the candidates of a listing (document 01, "Primes"): degree, least point and entry of the table of bases, one after the other; a prime's
 // record has the number of on points in it behind those (document 02, No. 6).
-// What the functions say of their results is in specs/, the laws about that in proofs/. Read next: crate `listing`.
+// What the functions say of their results is in specs/, the laws about that in proofs/. Read next: crate `point_counts`.
 use bases::entries::ENTRY_COUNT;
 use cubes::RECORD_LENGTH;
 ghost use mathlib.Core.Path.{_≡_};
@@ -14,7 +14,7 @@ ghost use Rattle.bases.specs.Bases.{start, stop, vectorsOf};
 ghost use Rattle.masks.specs.Points.{OfPoints};
 ghost use Rattle.bases.specs.Entry.{candidateAt, EntryAt};
 ghost use Rattle.walk.specs.Places.{fromPoint, FirstTaken};
-ghost use Rattle.walk.specs.Walk.{starting, passing, writing, stopping, state, passBy, walkBy};
+ghost use Rattle.walk.specs.Walk.{starting, passing, writing, stopping, state, passMasked, walkMasked};
 
 // ---- the entries of the table of bases
 
@@ -42,7 +42,7 @@ fn first_taken(
     ensures { λ r. ⌜ FirstTaken n d p i skip r ⌝ }
 {
     let end = bases::stop_of(d);
-    let avoided = bases::avoided(n, p);
+    let avoided = bases::avoided(n, p) << 48;
     let mut at = i;
     let mut left = skip;
     while at < end {
@@ -138,12 +138,12 @@ fn pass(
     requires { ⌜ OfPoints n free ⌝ }
     requires { ⌜ EntryAt n d p entry ⌝ }
     requires { ⌜ recordLength * tally .written ≤ length (now room) ⌝ }
-    ensures { λ r. ⌜ state r (now (room .exit)) ≡ passBy n on free (candidateAt d p entry) (state tally (now (room .entry))) ⌝ }
+    ensures { λ r. ⌜ state r (now (room .exit)) ≡ passMasked n on free (candidateAt d p entry) (state tally (now (room .entry))) ⌝ }
 {
     if tally.left == 0 {
         return tally.stopping();
     }
-    let count = masks::prime_count(on, free, n, d, p, entry);
+    let count = masks::count_in_prime(on, free, n, d, p, entry);
     if count == 0 {
         return tally.passing();
     }
@@ -173,7 +173,7 @@ pub fn walk(
     requires { ⌜ n ≤ maxListed ⌝ }
     requires { ⌜ degree ≤ n ⌝ }
     requires { ⌜ point < 2 ^ n ⌝ }
-    ensures { λ r. ⌜ state r (now (room .exit)) ≡ walkBy n on free (drop skip (fromPoint n degree point)) (state (starting allowance) (now (room .entry))) ⌝ }
+    ensures { λ r. ⌜ state r (now (room .exit)) ≡ walkMasked n on free (drop skip (fromPoint n degree point)) (state (starting allowance) (now (room .entry))) ⌝ }
 {
     let table = bases::entries::table();
     let mut tally = Tally {

@@ -1,12 +1,10 @@
--- `bases::avoided` meets its contract: nothing is lost by the two shifts. Assumes nothing.
-use mathlib.Core.Path.{ap, _∙_}
-use Prim.Native.Nat.{ℕ, _+_, _-_, _*_, _%_, _^_}
-use native.Mathlib.Nat.{mod-eq-of-lt}
+-- `bases::avoided` meets its contract: 1 shifted by n is the number of points. Assumes nothing.
+use mathlib.Core.Path.{ap}
+use Prim.Native.Nat.{ℕ, _+_, _-_}
 use native.Mathlib.Omega.{arith}
 use lib.Pow.{pow-mono}
 use borrow.Author.Needs.{needs}
 use Rattle.gf2.proofs.Xor.{shifted-one}
-use Rattle.bases.proofs.LeadBits.{avoided-small}
 use Rattle.bases.proofs.avoided.Statement.{statement}
 use Rattle.bases.proofs.avoided.Tie as tie
 
@@ -20,10 +18,7 @@ add-result : tie.Need-add-result
 add-result c = omega (arith, shifted-one (c .args .n) 64 (omega (arith, c .pre .0)), pow-mono (c .pre .0), c .pre .1)
 
 returns : tie.Need-returns
-returns c =
-    let a = c .args in
-    let one = shifted-one (a .n) 64 (omega (arith, c .pre .0)) in
-    ap (λ (z : ℕ). (a .p + (64 - z)) * 2 ^ 48 % 2 ^ 64) one ∙ mod-eq-of-lt (omega (arith, avoided-small (a .n) (a .p) (c .pre .0) (c .pre .1)))
+returns c = ap (λ (z : ℕ). c .args .p + (64 - z)) (shifted-one (c .args .n) 64 (omega (arith, c .pre .0)))
 
 pub avoided-spec : {M : Type 1} → statement M
 avoided-spec = tie.close (tie.spec shl-result sub-result add-result returns)

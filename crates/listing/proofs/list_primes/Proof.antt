@@ -79,8 +79,8 @@ finished c =
 sub-passed : tie.Need-sub-passed
 sub-passed c = finished c .left
 
-add-t15 : tie.Need-add-t15
-add-t15 c = omega (arith, finished c .fits)
+add-next : tie.Need-add-next
+add-next c = omega (arith, finished c .fits)
 
 same-length : tie.Need-same-length
 same-length c = search needs
@@ -100,6 +100,6 @@ list-primes-spec =
     point-at-requires
     walk-requires
     sub-passed
-    add-t15
+    add-next
     same-length
     returns-2)

@@ -31,8 +31,8 @@ sub-last c = let s = c .before in omega (arith, shifted-one (s .args .n) 64 (ome
 loop-holds : tie.Need-loop-holds Inv-loop μ-loop
 loop-holds c = let a = c .before .args in (pow-pos (a .n), ap (drop (a .skip)) (point-first (a .n) (a .degree)))
 
-point-count-requires : tie.Need-point-count-requires Inv-loop μ-loop
-point-count-requires c κs =
+candidates-at-point-requires : tie.Need-candidates-at-point-requires Inv-loop μ-loop
+candidates-at-point-requires c κs =
     let l = c .before .before in
     let s = l .before .before in
     (l .before .table .ensures, (s .pre .0, (omega (arith, s .pre .0, s .pre .1), l .loop .inv .0)))
@@ -58,8 +58,8 @@ loop-again c =
     let l = c .before .before .before .before in
     let a = l .before .before .args in (
       onward c,
-      l .loop .inv .1 ∙ point-passed (a .n) (a .degree) (l .loop .point) (l .loop .left) (c .before .point-count .result) (l .loop .inv .0) (c .before .point-count .ensures) (c .if1 .left)
-          ∙ ap (λ (z : ℕ). drop (l .loop .left - c .before .point-count .result) (fromPoint (a .n) (a .degree) z)) (sym (add-one (l .loop .point))),
+      l .loop .inv .1 ∙ point-passed (a .n) (a .degree) (l .loop .point) (l .loop .left) (c .before .candidates-at-point .result) (l .loop .inv .0) (c .before .candidates-at-point .ensures) (c .if1 .left)
+          ∙ ap (λ (z : ℕ). drop (l .loop .left - c .before .candidates-at-point .result) (fromPoint (a .n) (a .degree) z)) (sym (add-one (l .loop .point))),
     )
 
 returns-2 : tie.Need-returns-2 Inv-loop μ-loop
@@ -75,7 +75,7 @@ point-at-spec =
     shl-last
     sub-last
     loop-holds
-    point-count-requires
+    candidates-at-point-requires
     returns
     add-point
     loop-less

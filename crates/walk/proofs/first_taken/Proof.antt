@@ -2,11 +2,12 @@
 use mathlib.Core.Path.{_≡_, refl, sym, ap, ap₂, _∙_}
 use mathlib.Core.Bool.{true}
 use mathlib.Core.List.{List}
-use Prim.Native.Nat.{ℕ, _+_, _-_, _≤_, _<_}
+use Prim.Native.Nat.{ℕ, _+_, _-_, _*_, _%_, _^_, _≤_, _<_}
 use native.Mathlib.Omega.{arith}
 use lib.Dec.{eqb}
 use lib.Bits.{bitAnd}
 use lib.ListN.{getD, drop}
+use lib.Pow.{shl-exact}
 use borrow.Author.Needs.{needs}
 use borrow.Author.Tests.{eq-eqb, ne-eqb}
 use denote.Ref.{now}
@@ -15,7 +16,7 @@ use Rattle.bases.specs.Entries.{entries}
 use Rattle.bases.specs.Bases.{entryCount, stop, takesPoint}
 use Rattle.bases.specs.Entry.{candidateAt}
 use Rattle.bases.proofs.Bounds.{bounds, entry-mem}
-use Rattle.bases.proofs.LeadBits.{takes-avoided}
+use Rattle.bases.proofs.LeadBits.{avoided-small, takes-avoided}
 use Rattle.walk.specs.Places.{placed}
 use Rattle.walk.proofs.Rows.{placed-next, placed-taken, drop-one}
 use Rattle.walk.proofs.first_taken.Statement.{statement}
@@ -49,16 +50,21 @@ mul-if1 c = omega (arith, within c)
 element-copy-out-if1 : tie.Need-element-copy-out-if1 Inv-loop μ-loop
 element-copy-out-if1 c = omega (arith, within c)
 
+-- Lead bits moved up to where an entry holds them, as the code does it.
+abbrev moved : ℕ → ℕ
+moved v = v * 2 ^ 48 % 2 ^ 64
+
 -- What the test says of the entry.
 tested : (c : tie.In-loop Inv-loop μ-loop)
     → let l = c .before in
     let a = l .before .before .before .args in
-    eqb (bitAnd (getD (now (a .table)) (l .loop .at) 0) (l .before .avoided .result)) 0 ≡ takesPoint (a .n) (a .p) (getD entries (l .loop .at) 0)
+    eqb (bitAnd (getD (now (a .table)) (l .loop .at) 0) (moved (l .before .avoided .result))) 0 ≡ takesPoint (a .n) (a .p) (getD entries (l .loop .at) 0)
 tested c =
     let l = c .before in
     let s = l .before .before .before in
     let a = s .args in
-    ap₂ (λ (t : List ℕ) (v : ℕ). eqb (bitAnd (getD t (l .loop .at) 0) v) 0) (s .pre .0) (l .before .avoided .ensures)
+    ap₂ (λ (t : List ℕ) (v : ℕ). eqb (bitAnd (getD t (l .loop .at) 0) (moved v)) 0) (s .pre .0) (l .before .avoided .ensures)
+    ∙ ap (λ (v : ℕ). eqb (bitAnd (getD entries (l .loop .at) 0) v) 0) (shl-exact 6 48 64 (avoided-small (a .n) (a .p) (s .pre .1 .0) (s .pre .1 .1 .1 .0)) (omega arith))
     ∙ sym (takes-avoided (a .n) (a .d) (a .p) (getD entries (l .loop .at) 0) (s .pre .1 .0) (s .pre .1 .1 .0) (s .pre .1 .1 .1 .0)
     (entry-mem (a .d) (l .loop .at) (s .pre .1 .1 .0) (omega (arith, s .pre .1 .1 .1 .1 .0, l .loop .inv .0)) (within c .0)))
 
@@ -77,7 +83,7 @@ loop-again c =
       omega (arith, l .inv .0),
       omega (arith, c .before .before .loop-test .taken),
       λ rest. l .inv .2 rest ∙ ap (drop (l .left)) (placed-next (a .n) (a .d) (a .p) (l .at) (s .pre .1 .1 .0) h rest
-          (sym (tested (c .before .before)) ∙ ne-eqb (bitAnd (getD (now (a .table)) (l .at) 0) (c .before .before .before .before .avoided .result)) 0 (c .if1 .taken))),
+          (sym (tested (c .before .before)) ∙ ne-eqb (bitAnd (getD (now (a .table)) (l .at) 0) (moved (c .before .before .before .before .avoided .result))) 0 (c .if1 .taken))),
     )
 
 -- An entry that passes is taken.
@@ -86,7 +92,7 @@ held : (c : tie.Else1 Inv-loop μ-loop)
     takesPoint (l .before .before .before .args .n) (l .before .before .before .args .p) (getD entries (l .loop .at) 0) ≡ true
 held c =
     let l = c .before .before .before in
-    sym (tested (c .before .before)) ∙ eq-eqb (bitAnd (getD (now (l .before .before .before .args .table)) (l .loop .at) 0) (l .before .avoided .result)) 0 (c .if1 .left)
+    sym (tested (c .before .before)) ∙ eq-eqb (bitAnd (getD (now (l .before .before .before .args .table)) (l .loop .at) 0) (moved (l .before .avoided .result))) 0 (c .if1 .left)
 
 returns : tie.Need-returns Inv-loop μ-loop
 returns c =

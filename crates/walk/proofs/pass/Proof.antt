@@ -29,8 +29,8 @@ returns c =
     ap (λ (t : Tally). state t (now (a .room))) (c .stopping .ensures)
     ∙ pass-spent (primeBy (a .n) (a .on) (a .free)) (recordBy (a .n) (a .on)) (candidateAt (a .d) (a .p) (a .entry)) (a .tally) (now (a .room)) (c .before .if1 .taken)
 
-prime-count-requires : tie.Need-prime-count-requires
-prime-count-requires c κs = let s = c .before .before .before in (s .pre .0, (s .pre .1 .0, s .pre .1 .1 .0))
+count-in-prime-requires : tie.Need-count-in-prime-requires
+count-in-prime-requires c κs = let s = c .before .before .before in (s .pre .0, (s .pre .1 .0, s .pre .1 .1 .0))
 
 passing-requires : tie.Need-passing-requires
 passing-requires c κs = search needs
@@ -42,7 +42,7 @@ returns-2 c =
     let a = s .args in
     ap (λ (t : Tally). state t (now (a .room))) (c .passing .ensures)
     ∙ pass-off (primeBy (a .n) (a .on) (a .free)) (recordBy (a .n) (a .on)) (candidateAt (a .d) (a .p) (a .entry)) (a .tally) (now (a .room)) (i .before .if1 .left)
-    (count-none (a .on) (a .free) (s .pre .1 .1 .0) (i .prime-count .result) (i .prime-count .ensures) (c .before .if2 .taken))
+    (count-none (a .on) (a .free) (s .pre .1 .1 .0) (i .count-in-prime .result) (i .count-in-prime .ensures) (c .before .if2 .taken))
 
 mul-if3 : tie.Need-mul-if3
 mul-if3 c = search needs
@@ -60,7 +60,7 @@ returns-3 c =
     let a = s .args in
     ap (λ (t : Tally). state t (now (a .room))) (c .stopping2 .ensures)
     ∙ pass-full (primeBy (a .n) (a .on) (a .free)) (recordBy (a .n) (a .on)) (candidateAt (a .d) (a .p) (a .entry)) (a .tally) (now (a .room)) (i .before .if1 .left)
-    (count-some (a .on) (a .free) (s .pre .1 .1 .0) (i .prime-count .result) (i .prime-count .ensures) (c .before .before .if2 .left)) (omega (arith, c .before .if3 .taken))
+    (count-some (a .on) (a .free) (s .pre .1 .1 .0) (i .count-in-prime .result) (i .count-in-prime .ensures) (c .before .before .if2 .left)) (omega (arith, c .before .if3 .taken))
 
 put-requires : tie.Need-put-requires
 put-requires c κs =
@@ -72,7 +72,7 @@ put-requires c κs =
         omega (arith, k .few, k .short),
         (
           omega (arith, k .point, pow-mono (k .few)),
-          omega (arith, count-small (s .args .on) (s .args .free) k (i .prime-count .result) (i .prime-count .ensures) (c .before .before .if2 .left)),
+          omega (arith, count-small (s .args .on) (s .args .free) k (i .count-in-prime .result) (i .count-in-prime .ensures) (c .before .before .if2 .left)),
         ),
       ),
     )
@@ -87,7 +87,7 @@ same-length c =
     let u = c .before .before .before in
     let i = u .before .before .before .before in
     let a = i .before .before .before .before .args in
-    ap length (u .put .ensures) ∙ length-sets (now (a .room)) (recordLength * a .tally .written) ((a .d ∷ a .p ∷ vectorsOf 6 (a .entry)) ++ (i .prime-count .result ∷ []))
+    ap length (u .put .ensures) ∙ length-sets (now (a .room)) (recordLength * a .tally .written) ((a .d ∷ a .p ∷ vectorsOf 6 (a .entry)) ++ (i .count-in-prime .result ∷ []))
 
 returns-4 : tie.Need-returns-4
 returns-4 c =
@@ -98,9 +98,9 @@ returns-4 c =
     let k = s .pre .1 .1 .0 in
     let some = u .before .before .before .if2 .left in
     ap₂ state (c .writing .ensures)
-    (u .put .ensures ∙ ap (sets (now (a .room)) (recordLength * a .tally .written)) (count-record (a .on) (a .free) k (i .prime-count .result) (i .prime-count .ensures) some))
+    (u .put .ensures ∙ ap (sets (now (a .room)) (recordLength * a .tally .written)) (count-record (a .on) (a .free) k (i .count-in-prime .result) (i .count-in-prime .ensures) some))
     ∙ pass-write (primeBy (a .n) (a .on) (a .free)) (recordBy (a .n) (a .on)) (candidateAt (a .d) (a .p) (a .entry)) (a .tally) (now (a .room)) (i .before .if1 .left)
-    (count-some (a .on) (a .free) k (i .prime-count .result) (i .prime-count .ensures) some) (omega (arith, u .before .before .if3 .left))
+    (count-some (a .on) (a .free) k (i .count-in-prime .result) (i .count-in-prime .ensures) some) (omega (arith, u .before .before .if3 .left))
 
 pub pass-spec : {M : Type 1} → statement M
 pass-spec =
@@ -108,7 +108,7 @@ pass-spec =
     (tie.spec
     stopping-requires
     returns
-    prime-count-requires
+    count-in-prime-requires
     passing-requires
     returns-2
     mul-if3

@@ -10,14 +10,14 @@ use Rattle.gf2.proofs.Xor.{shifted-one}
 use Rattle.bases.specs.Entries.{entries}
 use Rattle.bases.specs.Bases.{entryCount, stop}
 use Rattle.walk.specs.Places.{fromPoint, FirstTaken}
-use Rattle.walk.specs.Walk.{starting, state, walkBy}
+use Rattle.walk.specs.Walk.{starting, state, walkMasked}
 use Rattle.walk.proofs.Stand.{Stand, stand-start, six, last, small, entry-stands, passed-kept, to-entry, at-stop, to-point, at-end, to-degree}
 use Rattle.walk.proofs.walk.Statement.{statement}
 use Rattle.walk.proofs.walk.Tie as tie
 
 abbrev Inv-loop : tie.InvT-loop
 Inv-loop on free n degree point skip₀ allowance room₀ table tally₀ d₀ p₀ i₀ skip room tally d p i =
-    Stand n on free (length room₀) (walkBy n on free (drop skip₀ (fromPoint n degree point)) (state (starting allowance) room₀)) skip d p i (state tally room)
+    Stand n on free (length room₀) (walkMasked n on free (drop skip₀ (fromPoint n degree point)) (state (starting allowance) room₀)) skip d p i (state tally room)
 
 abbrev μ-loop : tie.MeasureT-loop
 μ-loop on free n degree point skip₀ allowance room₀ table tally₀ d₀ p₀ i₀ skip room tally d p i = d * 200000 + (64 - p) * 2900 + (entryCount - i)

@@ -9,7 +9,7 @@ use crate::names::code_in;
 const COUNTING: [(&str, &str, &str); 5] = [
     ("gf2/src/lib.rt", "lead", "leading_zeros"),
     ("gf2/src/lib.rt", "parity", "count_ones"),
-    ("masks/src/lib.rt", "prime_count", "count_ones"),
+    ("masks/src/lib.rt", "count_in_prime", "count_ones"),
     ("point_sets/src/lib.rt", "least_from", "trailing_zeros"),
     ("product/src/lib.rt", "lowest", "trailing_zeros"),
 ];

@@ -1,12 +1,12 @@
--- `masks::prime_count` meets its contract: one law for each way that the test can go. Assumes nothing.
+-- `masks::count_in_prime` meets its contract: one law for each way that the test can go. Assumes nothing.
 use mathlib.Core.Path.{sym, _∙_}
 use native.Mathlib.Omega.{arith}
 use lib.Pow.{pow-mono}
 use borrow.Author.Needs.{needs}
 use Rattle.gf2.proofs.Xor.{shifted-one}
-use Rattle.masks.proofs.PrimeTest.{entry-fitting, count-out, count-more, count-held}
-use Rattle.masks.proofs.prime_count.Statement.{statement}
-use Rattle.masks.proofs.prime_count.Tie as tie
+use Rattle.masks.proofs.PrimeTest.{entry-fitting, count-out, count-more, count-inside}
+use Rattle.masks.proofs.count_in_prime.Statement.{statement}
+use Rattle.masks.proofs.count_in_prime.Tie as tie
 
 every-point-requires : tie.Need-every-point-requires
 every-point-requires c κs = entry-fitting (c .pre .1 .1)
@@ -37,11 +37,11 @@ returns-3 c =
     let s = c .before .before .before in
     let k = s .pre .1 .1 in
     let i = c .before .before .every-point in
-    count-held k (s .args .on) (s .args .free) (i .result) (s .pre .0) (s .pre .1 .0) (omega arith) (i .ensures) (c .before .if1 .left)
+    count-inside k (s .args .on) (s .args .free) (i .result) (s .pre .0) (s .pre .1 .0) (omega arith) (i .ensures) (c .before .if1 .left)
     (c .if2 .left ∙ shifted-one (s .args .d) 32 (omega (arith, k .few, k .short)))
 
-pub prime-count-spec : {M : Type 1} → statement M
-prime-count-spec =
+pub count-in-prime-spec : {M : Type 1} → statement M
+count-in-prime-spec =
     tie.close
     (tie.spec
     every-point-requires
