@@ -1,9 +1,10 @@
-//! Candidates, primes and listings. Follows document 01, section "Primes".
+//! Candidates, primes and listings. Follows document 01, section "Primes", and
+//! document 02, No. 6.
 
 use reference::calls;
 use reference::generate::{self, Generator};
 use reference::numbers::ListingNumbers;
-use reference::primes::{self, Pseudocube};
+use reference::primes::{self, Pseudocube, CUBE_LENGTH, RECORD_LENGTH};
 use reference::table::MOST_VARIABLES;
 use std::collections::BTreeSet;
 
@@ -109,7 +110,7 @@ fn list_in_pages(generator: &mut Generator, n: usize, on: &[u16], free: &[u16]) 
     let (mut place, mut passed, mut joined) = (0, 0, Vec::new());
     while place < end {
         let beyond = end + 1 + generator.below(5);
-        let refused = calls::list_primes(n, on, free, beyond, 1, &mut [7; 8]);
+        let refused = calls::list_primes(n, on, free, beyond, 1, &mut [7; RECORD_LENGTH]);
         assert_eq!(refused.refusal, 9);
         let allowance = generator.below(end / 3 + 2);
         let mut room = vec![7; generator.below(60)];
@@ -117,7 +118,7 @@ fn list_in_pages(generator: &mut Generator, n: usize, on: &[u16], free: &[u16]) 
         assert_eq!(answer.refusal, 0);
         assert_eq!(answer.passed, answer.next_place - place);
         assert!(answer.passed <= allowance);
-        let used = 8 * answer.records;
+        let used = RECORD_LENGTH * answer.records;
         assert!(room[used..].iter().all(|&byte| byte == 7));
         joined.extend_from_slice(&room[..used]);
         place = answer.next_place;
@@ -135,7 +136,9 @@ fn pages_join_to_all_primes_in_order() {
             let (_, on, free) = generate::random_table(&mut generator, n, 50, 20);
             let joined = list_in_pages(&mut generator, n, &on, &free);
             let all = primes::primes(n, &on, &free);
-            let expected: Vec<u8> = all.iter().flat_map(primes::record).collect();
+            let on = primes::set_of(&on);
+            let records = all.iter().flat_map(|cube| primes::record(on, cube));
+            let expected: Vec<u8> = records.collect();
             assert_eq!(joined, expected);
         }
     }
@@ -159,13 +162,13 @@ fn a_listing_stops_at_room_allowance_or_end() {
         .iter()
         .position(|cube| cube.basis == [1, 4] && cube.least == 2)
         .expect("the first prime is a candidate");
-    for length in 0..8 {
+    for length in 0..RECORD_LENGTH {
         let mut room = vec![7; length];
         let answer = calls::list_primes(3, &P6_ON, &[], 0, 51, &mut room);
         assert_eq!(answer, numbers(first, first, 0));
         assert_eq!(room, vec![7; length]);
     }
-    let mut room = [7; 40];
+    let mut room = [7; 5 * RECORD_LENGTH];
     let answer = calls::list_primes(3, &P6_ON, &[], 0, usize::MAX, &mut room);
     assert_eq!(answer, numbers(51, 51, 5));
     let answer = calls::list_primes(3, &P6_ON, &[], 51, usize::MAX, &mut room);
@@ -174,6 +177,22 @@ fn a_listing_stops_at_room_allowance_or_end() {
     assert_eq!(answer, numbers(20, 0, 0));
     let answer = calls::list_primes(3, &P6_ON, &[], first, 1, &mut room);
     assert_eq!(answer, numbers(first + 1, 1, 1));
+}
+
+/// P6's first prime has four points, which are on or free here; only those that are
+/// on count.
+#[test]
+fn on_points_of_a_prime_are_counted() {
+    let count = |on: &[u16], free: &[u16]| {
+        let mut room = [7; RECORD_LENGTH];
+        let answer = calls::list_primes(3, on, free, 0, usize::MAX, &mut room);
+        assert_eq!((answer.refusal, answer.records), (0, 1));
+        assert_eq!(room[..CUBE_LENGTH], [2, 2, 1, 4, 0, 0, 0, 0]);
+        room[CUBE_LENGTH]
+    };
+    assert_eq!(count(&[2, 3, 6, 7], &[]), 4);
+    assert_eq!(count(&[2, 6, 7], &[3]), 3);
+    assert_eq!(count(&[3], &[2, 6, 7]), 1);
 }
 
 #[test]

@@ -118,6 +118,19 @@ fn spaces((n, on, free): &Table, length: usize) {
     other.assert_front(&room);
 }
 
+/// The points of a prime: its least point XOR every choice of its vectors.
+fn points_of(prime: &glospruma::Prime) -> Vec<u16> {
+    let mut points = vec![u16::from(prime.least)];
+    for &vector in prime.basis {
+        let moved: Vec<u16> = points
+            .iter()
+            .map(|&point| point ^ u16::from(vector))
+            .collect();
+        points.extend(moved);
+    }
+    points
+}
+
 fn primes_and_form((n, on, free): &Table, length: usize) {
     let (mut room, mut other) = equal_rooms(length);
     let (on, free) = (Lent::holding(on), Lent::holding(free));
@@ -128,6 +141,9 @@ fn primes_and_form((n, on, free): &Table, length: usize) {
             assert_eq!(found.records, &room[..RECORD_LENGTH * raw.records]);
             for prime in found.primes() {
                 assert_eq!(prime.basis.len(), usize::from(prime.degree));
+                let points = points_of(&prime).into_iter();
+                let on_points = points.filter(|point| on.contains(point));
+                assert_eq!(on_points.count(), usize::from(prime.on_count));
             }
             Listed {
                 refusal: 0,
