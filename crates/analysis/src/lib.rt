@@ -1,6 +1,8 @@
 // The answers on the spaces of a table: linear space, completed function, its analysis, and smallest affine space (document 01, "Points and spaces").
 // Each function takes numbers and lent slices, asks nothing of its caller, and says in its contract what it returns and what every lent slice holds
 // afterwards, on all inputs. Read next: specs/Spaces.antt.
+#![tactic(auto)]
+
 ghost use Rattle.std.specs.Prelude.{◌≡◌};
 ghost use Rattle.analysis.specs.Spaces.{linear_space_answer, complete_refused, complete_answer, complete_after, analyse_refused, analyse_answer, analyse_after};
 ghost use Rattle.analysis.specs.Affine.{affine_refused, affine_answer, affine_after};
@@ -10,7 +12,7 @@ use table::{AFFINE_FAULT, ROOM_FAULT};
 
 // The linear space of a complete function: its degree and its reduced basis.
 #[repr(C)]
-#[derive(Drop)]
+#[derive(Clone, Copy)]
 pub struct LinearSpace {
     pub refusal: u8,
     pub degree: usize,
@@ -19,7 +21,7 @@ pub struct LinearSpace {
 
 // The completed function: how many points, its degree, and the degrees with all free points off and with all of them on.
 #[repr(C)]
-#[derive(Drop)]
+#[derive(Clone, Copy)]
 pub struct Completion {
     pub refusal: u8,
     pub count: usize,
@@ -30,7 +32,7 @@ pub struct Completion {
 
 // The completed function's linear space, canonical variables by index, equation masks, and how many points its restriction has.
 #[repr(C)]
-#[derive(Drop)]
+#[derive(Clone, Copy)]
 pub struct Analysis {
     pub refusal: u8,
     pub degree: usize,
@@ -42,7 +44,7 @@ pub struct Analysis {
 
 // The smallest affine space of the on points: its least point, its dimension and basis, and how many points are projected.
 #[repr(C)]
-#[derive(Drop)]
+#[derive(Clone, Copy)]
 pub struct AffineSpace {
     pub refusal: u8,
     pub least: u16,

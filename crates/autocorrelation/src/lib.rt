@@ -1,5 +1,7 @@
 // The linear space of a complete function by its correlation with itself (document 02, No. 7), a second way that shares with the search of crate `space` only
 // the tests of a table, the basis as a value and the answer. What the words mean is in specs/, the laws about them in proofs/. Read next: specs/Kept.antt.
+#![tactic(auto)]
+
 ghost use Rattle.std.specs.Prelude.{◌≡◌, false, cond, ◌++◌, ◌∷◌, [], suc, ◌^◌, ◌≤◌, ◌<◌, ltb, length, replicate, pos, nat_abs, ◌*ℤ◌};
 ghost use Rattle.gf2.specs.Limits.{max_variables};
 ghost use Rattle.gf2.specs.Finite.{holds, First, In};

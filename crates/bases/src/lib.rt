@@ -1,5 +1,7 @@
 // The reduced bases of at most six variables as one constant table (document 01, "Primes"): where the entries of a degree stand, and which serve
 // fewer variables and a given least point. The table itself is in `entries`. Read next: specs/Bases.antt.
+#![tactic(auto)]
+
 pub mod entries;
 
 ghost use Rattle.std.specs.Prelude.{◌≡◌, ◌^◌, ◌≤◌, ◌<◌};

@@ -1,5 +1,7 @@
 // A reduced basis by value, built by putting in one vector at a time (document 01, "Points and spaces" and "Forms and where they belong").
 // A basis is passed as `self` and handed back; `EMPTY` and `full(n)` are the named starting values. Read next: specs/Short.antt.
+#![tactic(auto)]
+
 ghost use Rattle.std.specs.Prelude.{◌≡◌, [], ◌∷◌, ◌++◌, ℕ, ◌+◌, ◌≤◌, ◌<◌, ◌^◌, min, max, length};
 ghost use Rattle.gf2.specs.Limits.{max_variables};
 ghost use Rattle.gf2.specs.Bits.{bit, index_of};
@@ -12,7 +14,7 @@ use gf2::MAX_VARIABLES;
 
 // At most MAX_VARIABLES numbers, and how many there are; unused entries are 0.
 #[repr(C)]
-#[derive(Drop)]
+#[derive(Clone, Copy)]
 pub struct ShortList {
     pub values: [u16; MAX_VARIABLES],
     pub len: usize,
@@ -42,7 +44,7 @@ impl ShortList {
 
 // A reduced basis: its vectors rising, and how many there are; unused entries are 0.
 #[repr(C)]
-#[derive(Drop)]
+#[derive(Clone, Copy)]
 pub struct Basis {
     pub vectors: [u16; MAX_VARIABLES],
     pub len: usize,

@@ -1,6 +1,8 @@
 // The choice of primes for a complete function of at most six variables that is given by its on points (document 01, "The written form"): for
 // each on point that isn't covered, the first prime in listing order that holds it. What the choice is, is said in crate `cover`; what the functions say
 // of their results in specs/, the laws about that in proofs/. Read next: specs/Search.antt.
+#![tactic(auto)]
+
 ghost use Rattle.std.specs.Prelude.{◌≡◌, false, ◌&&◌, ◌≤◌, ◌<◌, leb};
 ghost use Rattle.gf2.specs.Finite.{Mem};
 ghost use Rattle.gf2.specs.Basis.{reduce};
@@ -41,7 +43,7 @@ fn least_point(d: usize, x: u16, entry: u64) -> u16
 // ---- the first prime that holds a point
 
 // What a search has found: whether anything, and then its degree, its least point and its entry of the table of bases.
-#[derive(Drop)]
+#[derive(Clone, Copy)]
 pub struct Found {
     pub any: bool,
     pub degree: usize,
@@ -128,7 +130,7 @@ fn first_holding(table: &[u64; ENTRY_COUNT], on: u64, m: usize, x: u16) -> Found
 pub const MAX_CHOSEN: usize = 64;
 
 // The primes chosen for a complete function of at most six variables, in the order taken.
-#[derive(Drop)]
+#[derive(Clone, Copy)]
 pub struct Choice {
     pub count: usize,
     pub degrees: [usize; MAX_CHOSEN],

@@ -1,5 +1,7 @@
 // The closure set of a table of up to eight variables, and its on points spread over a space (document 02, No. 4), as sets of bits. What the words mean is
 // in specs/, the laws about them in proofs/. Read next: specs/ClosureSet.antt.
+#![tactic(auto)]
+
 ghost use Rattle.std.specs.Prelude.{◌≡◌, false, ℕ, ◌<◌, get_or};
 ghost use Rattle.gf2.specs.Finite.{holds};
 ghost use Rattle.basis.specs.Reduced.{vectors_of, BasisWithin};

@@ -1,5 +1,7 @@
 // Two stored tables laid side by side (document 02, No. 1): each point that they mark differently, with both marks, and the number of these.
 // What the words mean is in specs/, the laws about them in proofs/. Read next: specs/Differences.antt.
+#![tactic(auto)]
+
 ghost use Rattle.std.specs.Prelude.{◌≡◌, [], ◌∷◌, ◌+◌, ◌≤◌, ◌<◌, length};
 ghost use Rattle.std.proofs.lemmas.List.Edits.{sets};
 ghost use Rattle.records.specs.Kinds.{low_byte, high_byte};
@@ -17,7 +19,7 @@ pub const DIFFERENCE_LENGTH: usize = 4;
 
 // What comparing gives: the refusal or 0, its byte place, how many records are written, the point to go on from, and how many points differ in all.
 #[repr(C)]
-#[derive(Drop)]
+#[derive(Clone, Copy)]
 pub struct Comparison {
     pub refusal: u8,
     pub place: usize,
@@ -27,7 +29,7 @@ pub struct Comparison {
 }
 
 // What a listing gives: how many records it wrote, and the point that it stopped before.
-#[derive(Drop)]
+#[derive(Clone, Copy)]
 pub struct Stopped {
     pub records: usize,
     pub next: usize,

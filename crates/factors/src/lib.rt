@@ -1,5 +1,7 @@
 // The product that is written for one prime of the restriction, by value: its canonical product in the y's, with the reduction equations put
 // in for them (document 01, "The written form"). What the words mean is in crate `cover`. Read next: crate `writing`.
+#![tactic(auto)]
+
 ghost use Rattle.std.specs.Prelude.{◌≡◌, cond, ◌≤◌, ◌<◌};
 ghost use Rattle.gf2.specs.Limits.{max_variables};
 ghost use Rattle.gf2.specs.Bits.{bit};
@@ -17,7 +19,7 @@ ghost use Rattle.factors.specs.Factors.{factors_of, factors_at};
 use basis::{Basis, ShortList};
 
 // The factors of a product in form order: their constants and their masks.
-#[derive(Drop)]
+#[derive(Clone, Copy)]
 pub struct FactorList {
     pub constants: ShortList,
     pub masks: ShortList,

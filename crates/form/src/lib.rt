@@ -1,5 +1,7 @@
 // The written form (document 01, "The written form"): its bytes are walked from the left, and refused where they are no form.
 // Read next: specs/Form.antt.
+#![tactic(auto)]
+
 ghost use Rattle.std.specs.Prelude.{◌≡◌, ◌&&◌, not, List, [], ℕ, ◌+◌, ◌≤◌, ◌<◌, eqb, length, get_or, drop};
 ghost use Rattle.gf2.specs.Limits.{max_variables};
 ghost use Rattle.table.specs.Refusal.{fault_of};
@@ -26,7 +28,7 @@ pub const PRODUCT_LENGTH: usize = 1;
 pub const FACTOR_LENGTH: usize = 4;
 
 // What lies behind the walk: how many products, and how many factors the last of them has.
-#[derive(Drop)]
+#[derive(Clone, Copy)]
 pub struct Counts {
     pub products: usize,
     pub factors: usize,

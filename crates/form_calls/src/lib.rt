@@ -1,5 +1,7 @@
 // The calls that read a form (document 01, "The written form"): its bytes are valued at a point, read into points and written again.
 // Read next: specs/Reading.antt.
+#![tactic(auto)]
+
 ghost use Rattle.std.specs.Prelude.{◌≡◌, ◌&&◌, ◌+◌, ◌≤◌, length, drop};
 ghost use Rattle.gf2.specs.Finite.{select};
 ghost use Rattle.table.specs.Decision.{front};
@@ -15,7 +17,7 @@ use records::{FACTOR_KIND, PRODUCT_KIND};
 
 // What reading the points gives: the refusal or 0, its byte place, n, and how many points there are.
 #[repr(C)]
-#[derive(Drop)]
+#[derive(Clone, Copy)]
 pub struct FormPoints {
     pub refusal: u8,
     pub place: usize,
@@ -25,7 +27,7 @@ pub struct FormPoints {
 
 // What writing a form again gives: the refusal or 0, its byte place, and how many bytes are written.
 #[repr(C)]
-#[derive(Drop)]
+#[derive(Clone, Copy)]
 pub struct FormRewrite {
     pub refusal: u8,
     pub place: usize,
@@ -161,7 +163,7 @@ pub fn form_rewrite(bytes: &[u8], room: &mut [u8]) -> FormRewrite
             length: 0,
         };
     }
-    bytes::copy(bytes, &mut *room);
+    room[..bytes.len()].copy_from_slice(bytes);
     FormRewrite {
         refusal: 0,
         place: 0,

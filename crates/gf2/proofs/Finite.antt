@@ -96,10 +96,12 @@ snoc-mem d (b ∷ bs) v (inl (inr m)) = inr (snoc-mem d bs v (inl m))
 snoc-mem d (b ∷ bs) v (inr e) = inr (snoc-mem d bs v (inr e))
 
 pub map-mem : {A B : Type 0} (f : A → B) (bs : List A) (y : B) → Mem y (map f bs) → (x : A) × Mem x bs × (y ≡ f x)
+map-mem {A = A} {B = B} f [] y h = elim h [ ]
 map-mem f (b ∷ bs) y (inl e) = (b, inl refl, e)
 map-mem f (b ∷ bs) y (inr m) = let h = map-mem f bs y m in (h.0, inr h.1, h.2)
 
 pub mem-map : {A B : Type 0} (f : A → B) (bs : List A) (x : A) → Mem x bs → Mem (f x) (map f bs)
+mem-map {A = A} {B = B} f [] x h = elim h [ ]
 mem-map f (b ∷ bs) x (inl e) = inl (ap f e)
 mem-map f (b ∷ bs) x (inr m) = inr (mem-map f bs x m)
 
@@ -195,6 +197,7 @@ select-rising f (suc k) = cond_cases Rising (f k) (select f k ++ (k ∷ [])) (se
 
 -- What is below an element of a rising list stands before it.
 pub rising-before : (l : List ℕ) (i : ℕ) → Rising l → (x : ℕ) → Mem x l → x < get_or l i 0 → Mem x (take i l)
+rising-before [] i r x m h = elim m [ ]
 rising-before (a ∷ l) zero r x (inl e) h = absurd (omega arith)
 rising-before (a ∷ l) zero r x (inr m) h = absurd (omega (arith, r.0 x m))
 rising-before (a ∷ l) (suc i) r x (inl e) h = inl e

@@ -229,6 +229,7 @@ inserts-keep bs (v ∷ vs) x s = inserts-keep (insert bs v) vs x ((insert-span b
 
 pub inserts-mem : (bs vs : List ℕ) (v : ℕ) → Mem v vs → Span (inserts bs vs) v
 unfolding inserts
+inserts-mem bs [] v h = elim h [ ]
 inserts-mem bs (w ∷ vs) v (inl e) = inserts-keep (insert bs w) vs v ((insert-span bs w v).1 (span-mem (w ∷ bs) v (inl e)))
 inserts-mem bs (w ∷ vs) v (inr m) = inserts-mem (insert bs w) vs v m
 

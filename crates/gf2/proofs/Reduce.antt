@@ -85,6 +85,7 @@ apart b c p h e = record {
 }
 
 pub reduced-pos : (bs : List ℕ) → Reduced bs → (c : ℕ) → Mem c bs → 0 < c
+reduced-pos [] s c h = elim h [ ]
 reduced-pos (b ∷ bs) s c (inl e) = rw e s.0
 reduced-pos (b ∷ bs) s c (inr m) = reduced-pos bs s.2 c m
 
@@ -172,5 +173,6 @@ bit-reduce (b ∷ bs) k x h = bit-reduce bs k (clear b x) (λ c m. h c (inr m)) 
 
 pub has_lead-reduce : (bs : List ℕ) → Reduced bs → (x c : ℕ) → Mem c bs → has_lead c (reduce bs x) ≡ false
 unfolding reduce
+has_lead-reduce [] r x c h = elim h [ ]
 has_lead-reduce (b ∷ bs) r x c (inl e) = rw e (bit-reduce bs (lead b) (clear b x) (λ d m. (r.1 d m).lower) ∙ has_lead-clear b x r.0)
 has_lead-reduce (b ∷ bs) r x c (inr m) = has_lead-reduce bs r.2 (clear b x) c m

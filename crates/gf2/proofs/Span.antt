@@ -30,6 +30,7 @@ span-space bs = record { origin = span-zero bs; sums = span-xor bs }
 -- ---- that holds the vectors, and lies in every space that does
 
 pub span-mem : (bs : List ℕ) (b : ℕ) → Mem b bs → Span bs b
+span-mem [] b h = elim h [ ]
 span-mem (c ∷ bs) b (inl e) = inr (subst (Span bs) (sym (ap (λ (x : ℕ). x ⊕ c) e ∙ xor_self c)) (span-zero bs))
 span-mem (c ∷ bs) b (inr m) = inl (span-mem bs b m)
 

@@ -30,6 +30,7 @@ is_lead-at (b ∷ bs) k e = elim (or_cases (eqb (lead b) k) (is_lead bs k) e) [
 
 pub is_lead-off : (bs : List ℕ) (k : ℕ) → is_lead bs k ≡ false → (c : ℕ) → Mem c bs → lead c ≢ k
 unfolding is_lead
+is_lead-off [] k e c m h = elim m [ ]
 is_lead-off (b ∷ bs) k e c (inl q) h = eqb-false (lead b) k (or-none (eqb (lead b) k) (is_lead bs k) e).0 (sym (ap lead q) ∙ h)
 is_lead-off (b ∷ bs) k e c (inr m) h = is_lead-off bs k (or-none (eqb (lead b) k) (is_lead bs k) e).1 c m h
 

@@ -1,5 +1,7 @@
 // Points and vectors of n variables under XOR (document 01, "Points and spaces"): the lead of a vector, the parity of common bits,
 // and the step that clears a lead bit. What the words mean is in specs/, the laws about them in proofs/. Read next: crate `basis`.
+#![tactic(auto)]
+
 ghost use Rattle.std.specs.Prelude.{◌≡◌, ◌<◌};
 ghost use Rattle.gf2.specs.Bits.{bit, lead};
 ghost use Rattle.gf2.specs.Parity.{odd};

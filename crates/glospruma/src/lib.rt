@@ -2,6 +2,8 @@
 // a row without a branch, since a slice of structs has to be walked by hand: crate `index` decides, and `index_list` goes over the list. A call takes numbers and lent
 // slices, asks nothing of its caller, and says in its contract what it returns and what every lent slice holds afterwards, on all inputs. A refused
 // call returns the number of document 01, "Refusal numbers", or of document 02, with all other numbers 0 and all lent memory as before. Read next: crate `claims`.
+#![tactic(auto)]
+
 ghost use Rattle.std.specs.Prelude.{◌≡◌, length};
 ghost use Rattle.stored.specs.Reading.{read_answer, read_on_after, read_free_after};
 ghost use Rattle.compare.specs.Answer.{compare_answer, compare_after};

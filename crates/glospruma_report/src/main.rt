@@ -1,5 +1,7 @@
 // The program: a stored table on standard input, its report on standard output (document 01, "The printed report"). What is printed is
 // `report_text` of crate `report`; `main` only reads, calls and writes. Read next: specs/Printing.antt, crate `report`.
+#![tactic(auto)]
+
 ghost use Rattle.std.specs.Prelude.{◌≡◌, List, ℕ, ◌≤◌, length};
 ghost use Rattle.report.specs.Answer.{text_room};
 ghost use Rattle.streams.specs.Reading.{StartOf};

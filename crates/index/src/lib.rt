@@ -1,5 +1,7 @@
 // The index of a form (document 02, No. 5): a record for each point says how many products hold it, and which is the first. Everything here works on one record, or on
 // bytes; crate `index_list` goes over the lent list with it. Read next: specs/Records.antt.
+#![tactic(auto)]
+
 ghost use Rattle.std.specs.Prelude.{◌≡◌, cond, ◌++◌, ◌+◌, ◌≤◌, ◌<◌, ◌^◌, ltb, length};
 ghost use Rattle.table.specs.Refusal.{first_fault, fault_of};
 ghost use Rattle.table.specs.Decision.{front};
@@ -16,7 +18,7 @@ use table::Fault;
 
 // How many products hold a point, and the first of them, counted from 0, or `NO_PRODUCT`.
 #[repr(C)]
-#[derive(Drop)]
+#[derive(Clone, Copy)]
 pub struct PointRecord {
     pub count: u16,
     pub first: u16,
@@ -25,7 +27,7 @@ pub struct PointRecord {
 // What a call gives: the refusal or 0, its byte place, and the numbers of the form that the list then belongs to, which are its n, its length in bytes
 // and how many products it has.
 #[repr(C)]
-#[derive(Drop)]
+#[derive(Clone, Copy)]
 pub struct Indexed {
     pub refusal: u8,
     pub place: usize,
@@ -45,7 +47,7 @@ pub const APPEND: u8 = 1;
 pub const REMOVE: u8 = 2;
 
 // What a product says of a point, and where the record after its last factor begins.
-#[derive(Drop)]
+#[derive(Clone, Copy)]
 pub struct ProductSeen {
     pub holds: bool,
     pub next: usize,

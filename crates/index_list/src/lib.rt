@@ -1,5 +1,7 @@
 // The two loops over the index of a form in a list that the caller lends (document 02, No. 5): `matches` looks at its records, `update` changes them. The checker doesn't
 // cover a slice of structs, so both are walked by hand, and all that is decided of one record is decided in crate `index`. Read next: proofs/Walk.antt.
+#![tactic(auto)]
+
 ghost use Rattle.std.specs.Prelude.{◌≡◌, length};
 ghost use Rattle.index.specs.Records.{bound_of, agrees_upto};
 ghost use Rattle.index.specs.Changes.{Changes, updated};

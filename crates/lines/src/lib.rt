@@ -1,5 +1,7 @@
 // The lines of the printed report, written into lent bytes: each function takes the bytes and a place, and gives the place after what it wrote
 // (document 01, "The printed report"). Read next: specs/Lib.antt.
+#![tactic(auto)]
+
 ghost use Rattle.std.specs.Prelude.{◌≡◌, ◌+◌, ◌≤◌, length};
 ghost use mathlib.Core.List.{zip_with, flat_map};
 ghost use Rattle.gf2.specs.Limits.{max_variables};

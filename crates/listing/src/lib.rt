@@ -1,5 +1,7 @@
 // The listing of primes (document 01, "Primes"): its refusals, where it starts, and the walk of crate `walk` from there. What the listing is, is
 // said in crate `cubes`; what the functions say of their results in specs/, the laws about that in proofs/. Read next: specs/Starts.antt.
+#![tactic(auto)]
+
 ghost use Rattle.std.specs.Prelude.{◌≡◌, [], ◌≤◌, length};
 ghost use Rattle.cubes.specs.Candidates.{candidates_of, candidate_count};
 ghost use Rattle.cubes.specs.Records.{max_listed};
@@ -11,7 +13,7 @@ use cubes::MAX_LISTED;
 use table::{PLACE_FAULT, SIZE_FAULT};
 
 // Where a listing starts: the degree of its first candidates, and how many of that degree are behind it.
-#[derive(Drop)]
+#[derive(Clone, Copy)]
 pub struct Start {
     pub degree: usize,
     pub skip: u64,
@@ -60,7 +62,7 @@ fn start_at(n: usize, place: u64) -> Start
 }
 
 // The first least point of a listing, and how many candidates from that point on are still to be skipped.
-#[derive(Drop)]
+#[derive(Clone, Copy)]
 pub struct FirstPoint {
     pub point: u64,
     pub skip: u64,
@@ -106,7 +108,7 @@ fn listing_fault(n: usize, on: &[u16], free: &[u16], place: u64) -> u8
 
 // What a listing call returns: the refusal, or 0; the next place; how many candidates were passed; how many records were written.
 #[repr(C)]
-#[derive(Drop)]
+#[derive(Clone, Copy)]
 pub struct Listed {
     pub refusal: u8,
     pub next: u64,

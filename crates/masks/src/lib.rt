@@ -1,5 +1,7 @@
 // The test for a prime: one entry of the table of bases with a least point (document 01, "Primes"), and the number of on points in it (document 02,
 // No. 6). Sets of points as masks, on which that test stands, are in `points`. Read next: specs/Points.antt.
+#![tactic(auto)]
+
 pub mod points;
 
 ghost use Rattle.std.specs.Prelude.{◌≡◌};

@@ -1,5 +1,7 @@
 // A mask, the bits of one word, with each place x moved to x XOR v: each bit of v exchanges blocks of places. What that means is said in specs/, the
 // laws about it in proofs/. Read next: specs/Moves.antt.
+#![tactic(auto)]
+
 ghost use Rattle.std.specs.Prelude.{◌≡◌, ◌^◌, ◌<◌, ◌*◌, ◌/◌, ◌%◌};
 ghost use Rattle.moves.specs.Moves.{mask_size, low_places, Moved, EachMoved};
 

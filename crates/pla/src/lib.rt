@@ -1,5 +1,7 @@
 // A truth table in Berkeley PLA, one chosen output of it, read as a stored table (document 01, "The written form"). What the words mean is in
 // specs/, the laws about them in proofs/. Read next: specs/Table.antt.
+#![tactic(auto)]
+
 ghost use Rattle.std.specs.Prelude.{◌≡◌, not, ◌&&◌, ℕ, ◌+◌, ◌≤◌, eqb, length};
 ghost use Rattle.std.proofs.lemmas.List.Edits.{sets};
 ghost use Rattle.gf2.specs.Limits.{max_variables};
@@ -25,7 +27,7 @@ pub const OUTPUT_FAULT: u8 = 40;
 
 // What reading gives: the refusal or 0, the line at fault or 0, and how many bytes are written.
 #[repr(C)]
-#[derive(Drop)]
+#[derive(Clone, Copy)]
 pub struct PlaRead {
     pub refusal: u8,
     pub line: usize,

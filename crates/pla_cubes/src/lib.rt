@@ -1,5 +1,7 @@
 // The cubes of a truth table in Berkeley PLA: their symbols tested, the points that they cover, and flags that hold what they say. What the words mean
 // is in specs/, the laws about them in proofs/. Read next: specs/Cubes.antt.
+#![tactic(auto)]
+
 ghost use Rattle.std.specs.Prelude.{◌≡◌, false, ◌&&◌, ◌||◌, List, ◌∷◌, ℕ, ◌+◌, ◌≤◌, ◌<◌, length, get_or, take};
 ghost use Rattle.gf2.specs.Limits.{max_variables};
 ghost use Rattle.table.specs.Flags.{max_points};
@@ -12,7 +14,7 @@ use gf2::MAX_VARIABLES;
 use table::MAX_POINTS;
 
 // What the cubes so far say, one flag to a point: a 1, a 0 or a dash covers it.
-#[derive(Drop)]
+#[derive(Clone, Copy)]
 pub struct Flags {
     pub one: [bool; MAX_POINTS],
     pub zero: [bool; MAX_POINTS],

@@ -1,5 +1,7 @@
 // The lines of a truth table in Berkeley PLA, read one by one: what each says, what is refused, and flags that hold what the cubes so far say. What the
 // words mean is in specs/, the laws about them in proofs/. Read next: specs/Lines.antt.
+#![tactic(auto)]
+
 ghost use Rattle.std.specs.Prelude.{◌≡◌, false, cond, not, ◌&&◌, List, [], ◌∷◌, ◌≢◌, ℕ, ◌≤◌, ◌<◌, eqb, get_or};
 ghost use Rattle.gf2.specs.Limits.{max_variables};
 ghost use Rattle.table.specs.Refusal.{test, first_fault};
@@ -37,7 +39,7 @@ pub const MAX_OUTPUTS: usize = 4096;
 
 // What the lines so far said: numbers and a type that aren't given yet are 0; whether a number of cubes was given, and which; how many cubes there are;
 // whether the end was reached.
-#[derive(Drop)]
+#[derive(Clone, Copy)]
 pub struct Head {
     pub variables: usize,
     pub outputs: usize,
@@ -49,7 +51,7 @@ pub struct Head {
 }
 
 // What reading found: the refusal and the line at fault, or 0 and 0; the head, and what the cubes say, as far as it came.
-#[derive(Drop)]
+#[derive(Clone, Copy)]
 pub struct Reading {
     pub fault: u8,
     pub line: usize,

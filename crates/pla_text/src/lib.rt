@@ -1,12 +1,14 @@
 // The text of a truth table in Berkeley PLA: walks over its bytes, numbers, and the statement that a line makes. What the words mean is in
 // specs/, the laws about them in proofs/. Read next: specs/Text.antt.
+#![tactic(auto)]
+
 ghost use Rattle.std.specs.Prelude.{◌≡◌, ◌+◌, ◌≤◌, ◌<◌, length, get_or, drop};
 ghost use Rattle.pla_text.specs.Text.{stops, until, same_bytes, symbols_of, words_of};
 ghost use Rattle.pla_text.specs.Numbers.{with_digit, number_of};
 ghost use Rattle.pla_text.specs.Statements.{type_of, end_of, operand_of, directive_of, few, statement_of};
 
 // Where a walk over bytes stops.
-#[derive(Drop)]
+#[derive(Clone, Copy)]
 pub enum Stop {
     Newline,
     Hash,
@@ -15,7 +17,7 @@ pub enum Stop {
 }
 
 // The statement that a line makes: nothing, a directive that is unknown or ill-formed, the known directives, or a cube.
-#[derive(Drop)]
+#[derive(Clone, Copy)]
 pub enum Statement {
     Empty,
     Wrong,

@@ -1,6 +1,8 @@
 // Reads a truth table in Berkeley PLA from standard input and writes one output of it as a stored table to standard output. The output is the
 // first argument, counted from 1; without one it is the first. A refusal goes to standard error as its number and, where a line is at fault, that
 // line (docs/PLA.md). `main` only reads, calls and writes. Read next: specs/Choosing.antt, and crate `pla`, whose call is made.
+#![tactic(auto)]
+
 ghost use Rattle.std.specs.Prelude.{◌≡◌, List, ℕ, ◌≤◌, length};
 ghost use Rattle.stored.specs.Layout.{longest_table};
 ghost use Rattle.streams.specs.Reading.{StartOf};
@@ -23,7 +25,7 @@ const MESSAGE_ROOM: usize = 38;
 const ARGUMENT_ROOM: usize = 16;
 
 // How many bytes go to standard output and to standard error.
-#[derive(Drop)]
+#[derive(Clone, Copy)]
 struct Lengths {
     table: usize,
     message: usize,

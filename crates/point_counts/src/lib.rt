@@ -1,5 +1,7 @@
 // How many candidates of a degree have a given least point (document 01, "Primes"): a constant table, by which a listing passes whole points at once.
 // What its numbers are is said in specs/, and that they are right in proofs/. Read next: specs/PointCounts.antt.
+#![tactic(auto)]
+
 ghost use Rattle.std.specs.Prelude.{◌≡◌, ◌^◌, ◌≤◌, ◌<◌, length};
 ghost use Rattle.cubes.specs.Candidates.{candidates_at};
 ghost use Rattle.cubes.specs.Records.{max_listed};

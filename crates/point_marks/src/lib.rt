@@ -1,5 +1,7 @@
 // The marks of a stored table by point, as one array of numbers (document 02, No. 1). The table is read by the functions of crate `stored`.
 // Read next: specs/Marks.antt.
+#![tactic(auto)]
+
 ghost use Rattle.std.specs.Prelude.{◌≡◌};
 ghost use Rattle.stored.specs.Stored.{stored_fault};
 ghost use Rattle.point_marks.specs.Marks.{record_mark, MarksOf};

@@ -1,5 +1,7 @@
 // Sets of points, or vectors, of up to eight variables as bits of four words of 64: made of a list, moved by a vector, joined, and gone through in rising
 // order. What a set holds is said in specs/, the laws about it in proofs/. Read next: specs/Sets.antt.
+#![tactic(auto)]
+
 ghost use Rattle.std.specs.Prelude.{◌≡◌, false, ◌&&◌, ◌||◌, ℕ, ◌/◌, ◌≤◌, ◌<◌, get_or};
 ghost use Rattle.gf2.specs.Bits.{◌⊕◌};
 ghost use Rattle.gf2.specs.Finite.{holds};

@@ -1,5 +1,7 @@
 // XOR factors and canonical products (document 01, "The written form"): the lowest bit of a mask, a factor at a point, and the test for two
 // masks of one product. What the words mean is in specs/, the laws about them in proofs/. Read next: specs/Lowest.antt.
+#![tactic(auto)]
+
 ghost use Rattle.std.specs.Prelude.{◌≡◌, ◌<◌};
 ghost use Rattle.product.specs.Lowest.{lowest};
 ghost use Rattle.product.specs.Product.{factor, factor_at, apart_masks};

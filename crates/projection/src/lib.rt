@@ -1,5 +1,7 @@
 // Reduction equations, the restriction by a lead mask, and the smallest affine space (document 01, "Points and spaces"). What the words mean
 // is in specs/ here and in crate `space`, the laws about them in proofs/ of both. Read next: specs/Masks.antt.
+#![tactic(auto)]
+
 ghost use Rattle.std.specs.Prelude.{◌≡◌, true, false, cond, ℕ, ◌+◌, ◌≤◌, ◌<◌, ◌^◌, length, set};
 ghost use Rattle.gf2.specs.Limits.{max_variables};
 ghost use Rattle.gf2.specs.Bits.{bit, lead};

@@ -1,5 +1,7 @@
 // Records of the written form (document 01, "The written form"): one byte of kind, then a body whose length the kind fixes; wider
 // numbers are low byte first. The readers of stored tables and of forms and the writers of both go by these functions. Read next: specs/Kinds.antt.
+#![tactic(auto)]
+
 ghost use Rattle.std.specs.Prelude.{◌≡◌, [], ◌∷◌, ◌+◌, ◌≤◌, ◌<◌, length, drop};
 ghost use Rattle.std.proofs.lemmas.List.Edits.{sets};
 ghost use Rattle.records.specs.Kinds.{body_length, head_of, word_of, low_byte, high_byte, encode_record, word_record_length, encode_end};
@@ -28,7 +30,7 @@ pub const FREE_KIND: u8 = 0x44;
 pub const WORD_RECORD_LENGTH: usize = 3;
 
 // What a record is.
-#[derive(Drop)]
+#[derive(Clone, Copy)]
 pub enum Kind {
     Variables,
     Product,
@@ -40,7 +42,7 @@ pub enum Kind {
 
 // What a walk over the bytes of a table or a form finds: what is asked for, with its number of points or products, or the first fault from
 // the left with its place (document 02, No. 3).
-#[derive(Drop)]
+#[derive(Clone, Copy)]
 pub enum Walk {
     Laid(usize),
     WrongKind(usize),
@@ -54,7 +56,7 @@ pub enum Walk {
 }
 
 // What the kind byte of a record decides: its kind with the length of its body, or the refusal of an unknown kind.
-#[derive(Drop)]
+#[derive(Clone, Copy)]
 pub enum RecordHead {
     Known(Kind, usize),
     Refused(Walk),
@@ -109,7 +111,7 @@ pub fn put_end(room: &mut [u8], at: usize, count: u16)
 }
 
 // What a walk finds at one record: a whole one, with the length of its body, or how the walk ends.
-#[derive(Drop)]
+#[derive(Clone, Copy)]
 pub enum Step {
     Whole(usize),
     Stop(Walk),

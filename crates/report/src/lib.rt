@@ -1,4 +1,6 @@
 // The printed report of a stored table, written into lent bytes (document 01, "The printed report"). Read next: specs/Report.antt.
+#![tactic(auto)]
+
 ghost use Rattle.std.specs.Prelude.{◌≡◌, length};
 ghost use Rattle.text.specs.Writing.{HasRoom, Wrote};
 ghost use Rattle.report.specs.Report.{report_text};
@@ -11,7 +13,7 @@ pub const TEXT_ROOM: usize = 24576;
 
 // What writing a report gives: the refusal or 0, and how many bytes are written.
 #[repr(C)]
-#[derive(Drop)]
+#[derive(Clone, Copy)]
 pub struct ReportWritten {
     pub refusal: u8,
     pub length: usize,

@@ -1,6 +1,8 @@
 // The spaces of a table (document 01, "Points and spaces", and document 02, No. 4): linear space and degree, and completion. What the words mean is in
 // specs/, which also say what reduction equations, restriction and smallest affine space are (their code is in crate `projection`); the laws about them are
 // in proofs/. Read next: specs/Closure.antt.
+#![tactic(auto)]
+
 ghost use Rattle.std.specs.Prelude.{◌≡◌, [], ◌+◌, ◌^◌, ◌≤◌, ◌<◌};
 ghost use Rattle.gf2.specs.Limits.{max_variables};
 ghost use Rattle.gf2.specs.Finite.{select, In};
@@ -15,7 +17,7 @@ use basis::Basis;
 use table::MAX_POINTS;
 
 // What a search for a break of closure finds: a vector and a point, or none.
-#[derive(Drop)]
+#[derive(Clone, Copy)]
 pub enum Witness {
     At(u16, u16),
     None,
@@ -90,7 +92,7 @@ pub fn linear_space(flags: &[bool; MAX_POINTS], n: usize) -> Basis
 pub const MAX_SEARCHED: usize = 8;
 
 // A completed table: the flags of the completed function, its linear space, and the two degrees of the simple way, k0 and k1.
-#[derive(Drop)]
+#[derive(Clone, Copy)]
 pub struct Completed {
     pub flags: [bool; MAX_POINTS],
     pub basis: Basis,

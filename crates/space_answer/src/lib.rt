@@ -1,5 +1,7 @@
 // The answer of the calls on the linear space of a complete function, which they give by the same decision: degree and reduced basis, or a refusal
 // (document 01, "Points and spaces" and "Refusal numbers"). Read next: specs/Answer.antt.
+#![tactic(auto)]
+
 ghost use Rattle.std.specs.Prelude.{◌≡◌};
 ghost use Rattle.space_answer.specs.Answer.{space_refused, space_of};
 
@@ -7,7 +9,7 @@ use basis::Basis;
 
 // The linear space of a complete function: its degree and its reduced basis.
 #[repr(C)]
-#[derive(Drop)]
+#[derive(Clone, Copy)]
 pub struct LinearSpace {
     pub refusal: u8,
     pub degree: usize,

@@ -1,5 +1,7 @@
 // The stored table (document 01, "The written form"): its bytes are walked from the left, tested, and read into lists of on and free points.
 // Read next: specs/Layout.antt.
+#![tactic(auto)]
+
 ghost use Rattle.std.specs.Prelude.{◌≡◌, ◌+◌, ◌≤◌, ◌<◌, length, get_or, drop};
 ghost use Rattle.std.specs.Bool.{beq};
 ghost use Rattle.gf2.specs.Limits.{max_variables};
@@ -24,7 +26,7 @@ pub const LONGEST_TABLE: usize = FIRST_POINT
 
 // What reading gives: the refusal or 0, its byte place, n, and how many on and free points there are.
 #[repr(C)]
-#[derive(Drop)]
+#[derive(Clone, Copy)]
 pub struct TableRead {
     pub refusal: u8,
     pub place: usize,

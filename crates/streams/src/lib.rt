@@ -1,11 +1,13 @@
 // The standard streams, for programs: input read to its end, where a read that fails isn't taken for the end, and output, where a write that fails is
 // said on standard error. No contract can say what is read or written. Read next: the programs, crates `glospruma_report` and `pla_to_table`.
+#![tactic(auto)]
+
 ghost use Rattle.streams.specs.Reading.{ReadInto};
 
 use libc::{STDERR_FILENO, STDIN_FILENO, STDOUT_FILENO};
 
 // What reading gave: how many bytes stand at the front of the room, or that a read failed.
-#[derive(Drop)]
+#[derive(Clone, Copy)]
 pub enum Input {
     Bytes(usize),
     Failed,

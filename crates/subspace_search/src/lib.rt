@@ -1,5 +1,7 @@
 // The largest space inside a set of vectors of up to eight variables (document 02, No. 4), found by a search over reduced bases, depth first. What it goes
 // by is in specs/, the laws about it in proofs/. Read next: specs/Search.antt.
+#![tactic(auto)]
+
 ghost use Rattle.std.specs.Prelude.{◌≡◌, true, not, ◌&&◌, ◌++◌, ℕ, ◌+◌, ◌^◌, ◌≤◌, ◌<◌, leb, length};
 ghost use Rattle.gf2.specs.Limits.{max_variables};
 ghost use Rattle.gf2.specs.Bits.{bit};

@@ -1,5 +1,7 @@
 // The tests of a table (document 01, "Refusal numbers") and flags that mark points. What the words mean is in specs/, the laws about them
 // in proofs/. Read next: specs/Refusal.antt.
+#![tactic(auto)]
+
 ghost use Rattle.std.specs.Prelude.{◌≡◌, false, ◌≤◌, ◌^◌};
 ghost use Rattle.gf2.specs.Limits.{max_variables};
 ghost use Rattle.table.specs.Refusal.{has_place, fault_at};
@@ -51,7 +53,7 @@ pub const TOO_MANY_PRODUCTS_FAULT: u8 = 27;
 
 // What is wrong with an input: the refusal number, 0 if none, and the byte place that goes with it (document 02, No. 3). Every call that reads bytes
 // hands it on as it is.
-#[derive(Drop)]
+#[derive(Clone, Copy)]
 pub struct Fault {
     pub number: u8,
     pub place: usize,

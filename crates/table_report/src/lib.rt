@@ -1,4 +1,6 @@
 // The report of a table, written into lent bytes (document 01, "The printed report"). Read next: specs/Text.antt.
+#![tactic(auto)]
+
 ghost use Rattle.std.specs.Prelude.{◌≡◌, ◌≤◌};
 ghost use Rattle.gf2.specs.Limits.{max_variables};
 ghost use Rattle.gf2.specs.Basis.{canonical_places, variables_at};

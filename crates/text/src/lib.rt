@@ -1,5 +1,7 @@
 // Text written into lent bytes at growing places: each function takes the bytes and a place, and gives the place after what it wrote
 // (document 01, "The printed report"). Read next: specs/Lib.antt.
+#![tactic(auto)]
+
 ghost use Rattle.std.specs.Prelude.{cond, ◌∷◌, [], ◌++◌, ◌+◌, ◌<◌, eqb};
 ghost use Rattle.text.specs.Decimal.{digit, decimal};
 ghost use Rattle.text.specs.Pieces.{labelled, spaced, name, names};

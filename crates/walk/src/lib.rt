@@ -1,6 +1,8 @@
 // The walk over the candidates of a listing (document 01, "Primes"): degree, least point and entry of the table of bases, one after the other; a prime's
 // record has the number of on points in it behind those (document 02, No. 6).
 // What the functions say of their results is in specs/, the laws about that in proofs/. Read next: crate `point_counts`.
+#![tactic(auto)]
+
 ghost use Rattle.std.specs.Prelude.{◌≡◌, [], ◌∷◌, ◌++◌, ◌+◌, ◌*◌, ◌^◌, ◌≤◌, ◌<◌, length, drop};
 ghost use Rattle.std.proofs.lemmas.List.Edits.{sets};
 ghost use Rattle.cubes.specs.Records.{max_listed, record_length};
@@ -17,7 +19,7 @@ use cubes::RECORD_LENGTH;
 // ---- the entries of the table of bases
 
 // A place in the table of bases, and how many candidates are still to be skipped from there on.
-#[derive(Drop)]
+#[derive(Clone, Copy)]
 pub struct TakenEntry {
     pub at: usize,
     pub skip: u64,
@@ -81,7 +83,7 @@ fn put(room: &mut [u8], k: usize, d: usize, p: u64, entry: u64, count: u32)
 }
 
 // What is left of a walk's allowance, how many records it has written, and whether it has stopped.
-#[derive(Drop)]
+#[derive(Clone, Copy)]
 pub struct Tally {
     pub left: u64,
     pub written: usize,

@@ -1,5 +1,7 @@
 // The add-and-subtract transform of whole numbers, one to a point of n variables, in place (document 02, No. 7). What the words mean is in specs/, the
 // laws about them in proofs/. Read next: specs/Sums.antt.
+#![tactic(auto)]
+
 ghost use Rattle.std.specs.Prelude.{◌≡◌, ◌+◌, ◌*◌, length};
 ghost use Rattle.walsh.specs.Numbers.{Summable, pair_crossed, four_crossed, PairCrossable, FourCrossable, Halved, Quartered, Blocks, Passed, Transformable, Transformed, InBlocks};
 

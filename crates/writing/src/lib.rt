@@ -1,5 +1,7 @@
 // The form of a table, written as bytes into lent room (document 01, "The written form"). What is written is crate `cover`'s `written_form`.
 // Read next: specs/Writing.antt.
+#![tactic(auto)]
+
 ghost use Rattle.std.specs.Prelude.{◌≡◌, [], ◌∷◌, ◌+◌, ◌-◌, ◌≤◌, length};
 ghost use Rattle.std.proofs.lemmas.List.Edits.{sets};
 ghost use Rattle.gf2.specs.Limits.{max_variables};
@@ -26,7 +28,7 @@ use table::{MAX_POINTS, ROOM_FAULT, SIZE_FAULT};
 
 // What writing the form of a table gives: the refusal or 0, how many bytes are written, and how many products the form has.
 #[repr(C)]
-#[derive(Drop)]
+#[derive(Clone, Copy)]
 pub struct FormWritten {
     pub refusal: u8,
     pub length: usize,

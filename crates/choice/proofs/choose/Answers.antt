@@ -1,0 +1,97 @@
+-- `choice::choose` meets its contract: the points gone through so far are what `TakenTo` says. Assumes nothing.
+use mathlib.Core.Path.{◌≡◌, sym, ap, ◌∙◌, subst}
+use mathlib.Core.Bool.{Bool, true, false}
+use mathlib.Core.List.{List}
+use Prim.Native.Nat.{ℕ, ◌+◌, ◌-◌, ◌≤◌, ◌<◌}
+use native.Mathlib.Omega.{arith}
+use lib.Pow.{pow_mono}
+use lib.ListN.{length, get_or}
+use borrow.Author.Tests.{not-true, not-false}
+use Rattle.table.specs.Table.{outside}
+use Rattle.table.specs.Flags.{max_points}
+use Rattle.table.proofs.Table.{inside-at, outside-more}
+use Rattle.bases.specs.Entry.{EntryAt}
+use Rattle.cover.specs.Choice.{primes_of, covered, first_holding}
+use Rattle.choice.specs.declared.Choice.{Choice}
+use Rattle.choice.specs.Search.{found_of}
+use Rattle.choice.specs.Chosen.{max_chosen, chosen_by}
+use Rattle.choice.proofs.Taking.{primes-by, search-at, TakenTo, taken_start, taken-covered, taken-nothing, taken-one, few-points, taken-end}
+use Rattle.choice.proofs.choose.Goals as goal
+use Rattle.choice.proofs.choose.Goals.{Else-flags-flag_place, Else-not-found}
+
+pub mask_of-mask-requires : goal.mask_of-mask-requires
+mask_of-mask-requires c =outside-more c.args.m c.args.on.now c.requires.m_le_max_listed c.requires.on_value.0
+
+pub loop-i-init : goal.loop-i-init
+loop-i-init c =taken_start c.args.m c.args.on.now
+
+-- A point at a place of the list has a flag, and the flag tells whether it is covered.
+has-flag : (m : ℕ) (on : List ℕ) (i : ℕ) → m ≤ 6 → outside m on ≡ false → i < length on → get_or on i 0 < max_points
+has-flag m on i h o l = omega (arith, inside-at m on o i l, pow_mono h)
+
+flag_is : {m : ℕ} {on : List ℕ} {i : ℕ} {flags : List Bool} {r : Choice} → TakenTo m on i flags r → m ≤ 6 → outside m on ≡ false → i < length on
+    → (place : ℕ) → place ≡ get_or on i 0 → (t : Bool) → get_or flags place false ≡ t → covered (chosen_by r r.count) (get_or on i 0) ≡ t
+flag_is {m} {on} {i} {flags} w h o l place q t e = sym (w.flagged (get_or on i 0) (has-flag m on i h o l)) ∙ ap (λ (z : ℕ). get_or flags z false) (sym q) ∙ e
+
+pub bounds-flags-flag_place : goal.bounds-flags-flag_place
+bounds-flags-flag_place c =
+    omega (arith, c.flag_place.ensures, has-flag c.args.m c.args.on.now c.loop-i.i c.requires.m_le_max_listed c.requires.on_value.0 c.loop-i-test.true)
+
+pub loop-i-preserved-then-flags-flag_place : goal.loop-i-preserved-then-flags-flag_place
+loop-i-preserved-then-flags-flag_place c =
+    let h = c.loop-i-test.true in
+    taken-covered c.args.m c.args.on.now c.loop-i.i c.loop-i.flags c.loop-i.choice c.loop-i.invariant h
+    (flag_is c.loop-i.invariant c.requires.m_le_max_listed c.requires.on_value.0 h c.flag_place.result c.flag_place.ensures true c.if-flags-flag_place.true)
+
+pub first_holding-found-requires : goal.first_holding-found-requires
+first_holding-found-requires c =
+    let on = c.args.on.now in (
+      c.table-table.ensures,
+      search-at c.args.m on c.mask_of-mask.result (get_or on c.loop-i.i 0) c.requires.m_le_max_listed c.requires.on_value.0 c.mask_of-mask.ensures
+          (inside-at c.args.m on c.requires.on_value.0 c.loop-i.i c.loop-i-test.true),
+    )
+
+-- What the search found is the first of the primes of the function.
+first : (c : After-first-holding) → let l = c.before.before.before.before.before.before in let s = l.before.before.before.before in
+    found_of c.first_holding-found.result ≡ first_holding (primes_of c.args.m c.args.on.now) (get_or c.args.on.now c.loop-i.i 0)
+first c =
+    let on = c.args.on.now in
+    c.first_holding-found.ensures.result_value ∙ ap (λ z. first_holding z (get_or on c.loop-i.i 0)) (sym (primes-by c.args.m on c.mask_of-mask.result c.mask_of-mask.ensures))
+
+-- The point is not covered.
+uncovered : (c : Else-flags-flag_place) → let l = c.before.before.before.before in let s = l.before.before.before.before in
+    covered (chosen_by c.loop-i.choice c.loop-i.choice.count) (get_or c.args.on.now c.loop-i.i 0) ≡ false
+uncovered c =
+    flag_is c.loop-i.invariant c.requires.m_le_max_listed c.requires.on_value.0 c.loop-i-test.true c.flag_place.result c.flag_place.ensures false c.if-flags-flag_place.false
+
+pub loop-i-preserved-then-not-found : goal.loop-i-preserved-then-not-found
+loop-i-preserved-then-not-found c =
+    taken-nothing c.args.m c.args.on.now c.loop-i.i c.loop-i.flags c.loop-i.choice c.loop-i.invariant c.loop-i-test.true (uncovered (goal.at.loop-i-preserved-then-not-found c).Else-flags-flag_place) c.first_holding-found.result (first (goal.at.loop-i-preserved-then-not-found c).After-first_holding-found)
+    (not-true c.first_holding-found.result.any c.if-not-found.true)
+
+-- There is room for one more.
+room : (c : Else-not-found) → c.before.before.before.before.before.before.before.before.loop-i.choice.count < max_chosen
+room c =
+    omega (arith, c.loop-i.invariant.count, c.loop-i-test.true, few-points c.args.m c.args.on.now c.requires.m_le_max_listed c.requires.on_value.0 c.requires.on_value.1)
+
+-- What was found is an entry with a least point.
+entry : (c : Else-not-found) → let f = c.before.before.first_holding-found.result in
+    EntryAt c.args.m f.degree f.point f.entry
+entry c = let f = c.first_holding-found in f.ensures.1 (not-false f.result.any c.if-not-found.false)
+
+pub add-choice-requires : goal.add-choice-requires
+add-choice-requires c = room c
+
+pub mark_prime-flags-requires : goal.mark_prime-flags-requires
+mark_prime-flags-requires c = entry (goal.at.mark_prime-flags-requires c).Else-not-found
+
+pub loop-i-preserved : goal.loop-i-preserved
+loop-i-preserved c =
+    let r = c.loop-i.choice in
+    subst (TakenTo c.args.m c.args.on.now (c.loop-i.i + 1) c.mark_prime-flags.result) (sym c.add-choice.ensures)
+    (taken-one c.args.m c.args.on.now c.loop-i.i c.loop-i.flags r c.loop-i.invariant c.loop-i-test.true (uncovered (goal.at.loop-i-preserved c).Else-flags-flag_place) c.first_holding-found.result (first (goal.at.loop-i-preserved c).After-first_holding-found)
+    (not-false c.first_holding-found.result.any c.if-not-found.false) (entry (goal.at.loop-i-preserved c).Else-not-found) (room (goal.at.loop-i-preserved c).Else-not-found) c.mark_prime-flags.result c.mark_prime-flags.ensures)
+
+pub returns : goal.returns
+returns c =
+    taken-end c.args.m c.args.on.now c.loop-i.i c.loop-i.flags c.loop-i.choice c.loop-i.invariant c.loop-i-test.false (few-points c.args.m c.args.on.now c.requires.m_le_max_listed c.requires.on_value.0 c.requires.on_value.1)

@@ -1,0 +1,53 @@
+-- `choice::mark_prime` meets its contract: the points passed so far are marked where the candidate holds them. Assumes nothing.
+use mathlib.Core.Path.{◌≡◌, sym, ap, ◌∙◌, subst}
+use mathlib.Core.Bool.{true}
+use mathlib.Core.Logic.{inl, inr}
+use Prim.Native.Nat.{ℕ, ◌+◌, ◌-◌, ◌^◌, ◌≤◌, ◌<◌}
+use native.Mathlib.Omega.{arith}
+use lib.Pow.{pow_mono}
+use lib.ListN.{length, set}
+use borrow.Author.Rules.{rules}
+use Rattle.table.specs.Flags.{max_points}
+use Rattle.bases.specs.Entry.{candidate_at}
+use Rattle.choice.proofs.Reductions.{entry-positive}
+use Rattle.choice.proofs.Taking.{MarkedTo, marked_start, marked-on, marked-off, marked-end}
+use Rattle.choice.proofs.mark_prime.Goals as goal
+
+pub point_count-size-requires : goal.point_count-size-requires
+point_count-size-requires c = omega (arith, c.requires.few)
+
+pub loop-x-init : goal.loop-x-init
+loop-x-init c =
+    let a = c.args in
+    let long : length a.t5 ≡ max_points = search rules in
+    (omega arith, marked_start (candidate_at a.d a.point a.entry) a.t5 long)
+
+pub holds_point-requires : goal.holds_point-requires
+holds_point-requires c =let k = c.requires in entry-positive c.args.d c.args.entry (omega (arith, k.few, k.short)) k.listed
+
+-- The point is one of m variables.
+small : (m x : ℕ) → m ≤ 6 → x < 2 ^ m → x < max_points
+small m x h l = omega (arith, pow_mono h)
+
+pub bounds-flags-flag_place : goal.bounds-flags-flag_place
+bounds-flags-flag_place c =
+    omega (arith, c.flag_place.ensures, small c.args.m c.loop-x.x c.requires.few (omega (arith, c.loop-x-test.true, c.point_count-size.ensures)))
+
+pub loop-x-preserved : goal.loop-x-preserved
+loop-x-preserved c =
+    let l = c.loop-x in
+    let k = candidate_at c.args.d c.args.point c.args.entry in
+    let f = c.args.t5 in (
+      omega (arith, c.loop-x-test.true),
+      elim c.if-holds_point.branch [
+        | inl w ↦ subst (MarkedTo k f (l.x + 1)) (sym (w.2 ∙ ap (λ (z : ℕ). set l.flags z true) w.1.ensures))
+            (marked-on k f l.flags l.x l.invariant.1 (sym c.holds_point.ensures ∙ w.0.true)
+            (small c.args.m l.x c.requires.few (omega (arith, c.loop-x-test.true, c.point_count-size.ensures))))
+        | inr w ↦ subst (MarkedTo k f (l.x + 1)) (sym w.1) (marked-off k f l.flags l.x l.invariant.1 (sym c.holds_point.ensures ∙ w.0.left))
+      ],
+    )
+
+pub returns : goal.returns
+returns c =
+    let l = c.loop-x in
+    marked-end c.requires c.args.t5 l.flags l.x (omega (arith, c.loop-x-test.false, c.point_count-size.ensures)) l.invariant.1

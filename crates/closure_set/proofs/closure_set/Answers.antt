@@ -1,0 +1,39 @@
+-- `closure_set::closure_set` meets its contract: after i turns the vectors are left that take the first i on points to allowed ones. Assumes nothing.
+use mathlib.Core.Path.{ap, ap₂, ◌∙◌, fun_ext}
+use mathlib.Core.Bool.{Bool, ◌&&◌}
+use Prim.Native.Nat.{ℕ, ◌-◌}
+use native.Mathlib.Omega.{arith}
+use lib.Seq.{take_all}
+use Rattle.gf2.specs.Bits.{◌⊕◌}
+use Rattle.gf2.specs.Finite.{every}
+use Rattle.table.proofs.Table.{inside-at}
+use Rattle.point_sets.specs.Sets.{set_variables, member}
+use Rattle.point_sets.proofs.Sets.{full-member}
+use Rattle.closure_set.specs.ClosureSet.{closes}
+use Rattle.closure_set.proofs.Steps.{every-next}
+use Rattle.closure_set.proofs.closure_set.Goals as goal
+
+pub loop-i-init : goal.loop-i-init
+loop-i-init c = (omega arith, λ a h. full-member a h)
+
+pub moved_set-moved-requires : goal.moved_set-moved-requires
+moved_set-moved-requires c =
+    inside-at set_variables c.args.on.now c.requires.on_value c.loop-i.i (omega arith)
+
+pub loop-i-preserved : goal.loop-i-preserved
+loop-i-preserved c =
+    let l = c.loop-i in
+    let points = member c.allowed_points-allowed.result in (
+      omega arith,
+      λ a h. c.both-closure.ensures a ∙ ap₂ ◌&&◌ (l.invariant.1 a h) (c.moved_set-moved.ensures a) ∙ every-next points c.args.on.now l.i a (omega arith),
+    )
+
+pub returns : goal.returns
+unfolding closes
+returns c a h =
+    let l = c.before.loop-i in
+    let p = c.before.before in
+    let s = p.before.before.before in
+    l.invariant.1 a h
+    ∙ ap (every (λ w. member p.allowed_points-allowed.result (w ⊕ a))) (take_all l.i s.args.on.now (omega arith))
+    ∙ ap (λ (t : ℕ → Bool). every (λ w. t (w ⊕ a)) s.args.on.now) (fun_ext p.allowed_points-allowed.ensures)

@@ -1,0 +1,46 @@
+-- `factors::basis_of` meets its contract: the vectors found, then those of what is left of the entry, are the whole. Assumes nothing.
+use mathlib.Core.Path.{◌≡◌, refl, sym, ap, ◌∙◌}
+use mathlib.Core.List.{[], ◌∷◌, ◌++◌, append-nil}
+use Prim.Native.Nat.{ℕ, ◌+◌, ◌%◌}
+use native.Mathlib.Omega.{arith}
+use lib.ListN.{length-append}
+use Rattle.basis.specs.declared.Basis.{Basis}
+use Rattle.basis.specs.declared.ShortList.{ShortList}
+use Rattle.basis.specs.Short.{listed, short}
+use Rattle.basis.specs.Reduced.{basis_of}
+use Rattle.basis.proofs.Values.{short-listed, short-again, short-len}
+use Rattle.bases.specs.Bases.{vectors_of}
+use Rattle.factors.proofs.Steps.{vectors-next}
+use Rattle.factors.proofs.basis_of.Goals as goal
+
+pub loop-left-init : goal.loop-left-init
+loop-left-init c = (omega arith, omega arith, refl, refl)
+
+pub push-vectors-requires : goal.push-vectors-requires
+push-vectors-requires c = let l = c.loop-left in (l.invariant.2, omega arith)
+
+pub loop-left-preserved : goal.loop-left-preserved
+loop-left-preserved c =
+    let l = c.loop-left in
+    let p = c.push-vectors in
+    let v = l.rest % 256 in
+    let f = listed l.vectors ++ (v ∷ []) in (
+      omega arith,
+      omega (arith, short-len p.result f p.ensures, length-append (listed l.vectors) (v ∷ []), short-len l.vectors (listed l.vectors) l.invariant.2),
+      short-again p.result f p.ensures,
+      rw (short-listed p.result f p.ensures) (vectors-next l.left l.rest (listed l.vectors) (omega arith) ∙ l.invariant.3),
+    )
+
+-- None are left.
+whole : (d entry : ℕ) (s : ShortList) (rest left : ℕ) → left ≡ 0 → s ≡ short (listed s) → listed s ++ vectors_of left rest ≡ vectors_of d entry
+    → ◌≡◌ {A = Basis} (record { vectors = s.values-1; len = s.len }) (basis_of (vectors_of d entry))
+unfolding vectors_of
+whole d entry s rest left z e h =
+    let q : listed s ++ [] ≡ vectors_of d entry = ap (λ (k : ℕ). listed s ++ vectors_of k rest) (sym z) ∙ h in
+    ap (λ (x : ShortList). record { vectors = x.values-1; len = x.len }) e ∙ ap basis_of (sym (append-nil (listed s)) ∙ q)
+
+pub returns : goal.returns
+returns c =
+    let l = c.loop-left in
+    let a = c.args in
+    whole a.d a.entry l.vectors l.rest l.left (omega arith) l.invariant.2 l.invariant.3

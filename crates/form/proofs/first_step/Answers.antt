@@ -1,0 +1,49 @@
+-- `form::first_step` meets its contract: the decision over the first byte, then the kind that it gives. Assumes nothing.
+use mathlib.Core.Path.{◌≡◌, refl, sym, ap, ◌∙◌}
+use mathlib.Core.List.{List, [], ◌∷◌}
+use Prim.Native.Nat.{ℕ}
+use denote.Enum.Declared.{tag_of}
+use types.Run.{OneOf, miss}
+use borrow.Author.Rules.{rules}
+use lib.ListN.{drop, get_or}
+use Rattle.records.specs.declared.Kind.{Kind}
+use Rattle.records.specs.declared.Kind.TheVariants.{Variables, Product, Factor, End, On, Free}
+use Rattle.records.specs.Kinds.{body_length, head_of}
+use Rattle.records.specs.contracts.Kind.{the_type}
+use Rattle.records.proofs.KindBytes.{head-known}
+use Rattle.records.specs.declared.Walk.TheVariants.{WrongKind}
+use Rattle.records.specs.declared.RecordHead.TheVariants.{Known}
+use Rattle.records.specs.declared.Step.TheVariants.{Stop}
+use Rattle.form.specs.Walk.{first_form_kind}
+use Rattle.form.proofs.first_step.Goals as goal
+
+-- Every kind but the first of the enum stands wrong here.
+wrong : (k : Kind) (l : ℕ) (rest : List ℕ) → OneOf (1 ∷ 2 ∷ 3 ∷ 4 ∷ 5 ∷ []) (tag_of the_type k) → Stop (WrongKind 0) ≡ first_form_kind k l rest
+wrong Variables l rest h = absurd (miss (1 ∷ 2 ∷ 3 ∷ 4 ∷ 5 ∷ []) 0 tt h)
+wrong Product l rest h = refl
+wrong Factor l rest h = refl
+wrong End l rest h = refl
+wrong On l rest h = refl
+wrong Free l rest h = refl
+
+-- The kind of the first byte, once it is known.
+known : (c : After-known-told2) → head_of (get_or c.before.before.before.before.before.before.args.bytes.now 0 0) 0 ≡ Known c.before.kind-1.given.0.0 c.before.kind-1.given.0.1.0
+known c = sym c.head_of.ensures ∙ c.kind-1.given.1
+
+pub variables_step-requires : goal.variables_step-requires
+variables_step-requires c =
+    record {
+      bytes_nonzero = search rules;
+      body_value = (head-known (get_or c.args.bytes.now 0 0) 0 (known (goal.at.variables_step-requires c).In-Known)).1 ∙ ap body_length c.enum_told-1.given.1;
+    }
+
+pub returns-in-Refused : goal.returns-in-Refused
+returns-in-Refused c = rw (sym c.head_of.ensures ∙ c.fault-1.given.1)
+
+pub returns-in-Variables : goal.returns-in-Variables
+returns-in-Variables c = c.variables_step.ensures ∙ sym (rw (known (goal.at.returns-in-Variables c).In-Known, c.enum_told-1.given.1))
+
+pub returns-in_default : goal.returns-in_default
+returns-in_default c =
+    let g = c.kind-1.given.0 in
+    rw (known (goal.at.returns-in_default c).In-Known) (wrong g.0 g.1.0 (drop 1 c.args.bytes.now) c.in-Variables.keys2)

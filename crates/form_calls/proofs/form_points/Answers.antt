@@ -1,0 +1,74 @@
+-- `form_calls::form_points` meets its contract: the form's own refusal, then the room's, decide; the points below 2 ^ n are those of the form.
+-- Assumes nothing.
+use mathlib.Core.Path.{◌≡◌, refl, sym, ap, ◌∙◌}
+use mathlib.Core.List.{List}
+use Prim.Native.Nat.{ℕ}
+use native.Mathlib.Omega.{arith}
+use lib.ListN.{length}
+use Rattle.gf2.specs.Finite.{select}
+use Rattle.table.specs.declared.Fault.{Fault}
+use Rattle.table.specs.Decision.{front}
+use Rattle.form.specs.Form.{form_at}
+use Rattle.form.specs.Decoding.{form_variables, decode_form}
+use Rattle.form.specs.Refusal.{IsForm, form_fault}
+use Rattle.form.proofs.Accepting.{accepted-form, form-begins}
+use Rattle.form_calls.specs.Reading.{points_read}
+use Rattle.form_calls.proofs.Answering.{points-below, points-ways, form-found}
+use Rattle.form_calls.proofs.form_points.Goals as goal
+use Rattle.form_calls.proofs.form_points.Goals.{Else-fault-ne0}
+
+pub returns-then-fault-ne0 : goal.returns-then-fault-ne0
+returns-then-fault-ne0 c =
+    let a = c.args in
+    (points-ways a.bytes.now a.room-1.now).faulty c.form_fault-fault.result (form-found a.bytes.now c.form_fault-fault.ensures) c.if-fault-ne0.true _ refl
+
+-- The bytes and the room, as the call was given them.
+abbrev given : Else-fault-ne0 → Start
+given c = c.before.before.before.before.before
+
+-- Past the first test the bytes are a form.
+sound : (c : Else-fault-ne0) → form_fault (given c).args.bytes.now ≡ 0
+sound c = sym (ap (λ (f : Fault). f.number) (form-found (given c).args.bytes.now c.form_fault-fault.ensures)) ∙ c.if-fault-ne0.false
+
+accepted : (c : Else-fault-ne0) → IsForm (given c).args.bytes.now
+accepted c = (accepted-form (given c).args.bytes.now).0 (sound c)
+
+pub bounds-bytes-1 : goal.bounds-bytes-1
+bounds-bytes-1 c = (form-begins (given (goal.at.bounds-bytes-1 c).Else-fault-ne0).args.bytes.now (accepted (goal.at.bounds-bytes-1 c).Else-fault-ne0)).0
+
+pub overflow_cast-n : goal.overflow_cast-n
+overflow_cast-n c = omega (arith, (form-begins (given (goal.at.overflow_cast-n c).Else-fault-ne0).args.bytes.now (accepted (goal.at.overflow_cast-n c).Else-fault-ne0)).1)
+
+pub point_count-size-requires : goal.point_count-size-requires
+point_count-size-requires c = (form-begins (given (goal.at.point_count-size-requires c).Else-fault-ne0).args.bytes.now (accepted (goal.at.point_count-size-requires c).Else-fault-ne0)).1
+
+pub count_points-count-requires : goal.count_points-count-requires
+count_points-count-requires c = accepted (goal.at.count_points-count-requires c).Else-fault-ne0
+
+-- The points below the bound that the code takes are all of them, and the count is theirs.
+points : (c : After-point-count)
+    → let bytes = (given c).args.bytes.now in
+    select (form_at (decode_form bytes)) c.point_count-size.result ≡ points_read bytes
+points c = points-below (given c).args.bytes.now c.point_count-size.ensures
+
+counted : (c : After-count-points) → c.count_points-count.result ≡ length (points_read (given c.before.before.before).args.bytes.now)
+counted c = c.count_points-count.ensures ∙ ap length (points c)
+
+pub returns-then-room-count : goal.returns-then-room-count
+returns-then-room-count c =
+    let a = (given (goal.at.returns-then-room-count c).Else-fault-ne0).args in
+    (points-ways a.bytes.now a.room-1.now).short (sound (goal.at.returns-then-room-count c).Else-fault-ne0) (omega (arith, counted (goal.at.returns-then-room-count c).After-count_points-count)) _ refl
+
+pub write_points-requires : goal.write_points-requires
+write_points-requires c =
+    record {
+      form = accepted (goal.at.write_points-requires c).Else-fault-ne0;
+      size_in_bounds = omega (arith, c.count_points-count.ensures, c.if-room-count.false);
+    }
+
+pub returns : goal.returns
+returns c =
+    let a = (given (goal.at.returns c).Else-fault-ne0).args in
+    (points-ways a.bytes.now a.room-1.now).whole (sound (goal.at.returns c).Else-fault-ne0) (omega (arith, counted (goal.at.returns c).After-count_points-count, c.if-room-count.false)) _ _
+    (ap (λ (k : ℕ). record { refusal = 0; place = 0; variables = form_variables a.bytes.now; count = k }) (counted (goal.at.returns c).After-count_points-count))
+    (c.write_points.ensures ∙ ap (λ (l : List ℕ). front l a.room-1.now) (points (goal.at.returns c).After-point_count-size))

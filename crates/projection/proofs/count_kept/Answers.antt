@@ -1,0 +1,48 @@
+-- `projection::count_kept` meets its contract: the count so far is that of the points kept below w. Assumes nothing.
+use mathlib.Core.Path.{◌≡◌, refl, sym, ap, ◌∙◌}
+use mathlib.Core.Bool.{true, false}
+use mathlib.Core.Logic.{⊎_elim}
+use Prim.Native.Nat.{ℕ, ◌-◌, ◌^◌}
+use native.Mathlib.Omega.{arith}
+use lib.ListN.{length, length-map}
+use lib.Pow.{pow_mono}
+use Rattle.gf2.specs.Finite.{select}
+use Rattle.gf2.proofs.Finite.{select-length}
+use Rattle.space.specs.Restriction.{project}
+use Rattle.space.specs.Witness.{flagged}
+use Rattle.projection.specs.Masks.{places_clear, is_kept, kept}
+use Rattle.table.proofs.Selecting.{count-step}
+use Rattle.projection.proofs.count_kept.Goals as goal
+
+pub loop-w-init : goal.loop-w-init
+unfolding select
+loop-w-init c = (omega arith, refl)
+
+pub is_kept-requires : goal.is_kept-requires
+is_kept-requires c =
+    omega (arith, c.point_count-size.ensures, pow_mono c.requires)
+
+pub overflow_add-count : goal.overflow_add-count
+overflow_add-count c =
+    let l = c.loop-w in
+    omega (arith, select-length (is_kept c.args.leads (flagged c.args.flags.now)) l.w, pow_mono c.requires)
+
+pub loop-w-preserved : goal.loop-w-preserved
+loop-w-preserved c =
+    let l = c.loop-w in
+    let a = c.args in
+    let t = is_kept a.leads (flagged a.flags.now) in
+    let known = sym c.is_kept.ensures in (
+      omega (arith, c.point_count-size.ensures),
+      ⊎_elim (λ x. count-step t l.w l.count c.if-is_kept.count l.invariant.1 true (known ∙ x.0.true) x.1)
+          (λ x. count-step t l.w l.count c.if-is_kept.count l.invariant.1 false (known ∙ x.0.left) x.1) c.if-is_kept.branch,
+    )
+
+pub returns : goal.returns
+unfolding kept
+returns c =
+    let l = c.loop-w in
+    let a = c.args in
+    let t = is_kept a.leads (flagged a.flags.now) in
+    let e : l.w ≡ 2 ^ a.n = omega (arith, c.point_count-size.ensures) in
+    l.invariant.1 ∙ ap (λ (k : ℕ). length (select t k)) e ∙ sym (length-map (select t (2 ^ a.n)) (project (places_clear a.n a.leads)))

@@ -1,0 +1,46 @@
+-- `stored::count_points` meets its contract. The loop's invariant: the points of the records passed are counted. Assumes nothing.
+use mathlib.Core.Path.{◌≡◌, refl, sym, ap, ◌∙◌}
+use mathlib.Core.Logic.{⊎_elim}
+use Prim.Native.Nat.{◌-◌}
+use native.Mathlib.Omega.{arith}
+use borrow.Author.Rules.{rules}
+use lib.ListN.{length, take}
+use lib.Seq.{take_all}
+use Rattle.stored.specs.Marks.{marks, marked_points}
+use Rattle.stored.proofs.Laying.{table-length}
+use Rattle.stored.proofs.Points.{points-few, points-front, count-more, points-same}
+use Rattle.stored.proofs.count_points.Goals as goal
+
+record-count-requires : Need-record-count-requires invariant-loop decreases-loop
+
+record-count-requires c κs = search rules
+
+pub loop-i-init : goal.loop-i-init
+unfolding marked_points
+loop-i-init c = (search rules, c.record_count-count.ensures, refl)
+
+pub is_marked-requires : goal.is_marked-requires
+is_marked-requires c = record { laid_out = search rules; i_in_bounds = omega arith }
+
+pub overflow_add-found : goal.overflow_add-found
+overflow_add-found c =
+    let a = c.args in
+    omega (arith, points-front a.on (marks a.bytes.now) c.loop-i.i, points-few a.on (marks a.bytes.now), table-length a.bytes.now c.requires)
+
+pub loop-i-preserved : goal.loop-i-preserved
+loop-i-preserved c =
+    let a = c.args in
+    let ms = marks a.bytes.now in (
+      omega arith,
+      c.loop-i.invariant.1,
+      ⊎_elim
+          (λ w. omega (arith, w.1, count-more a.on ms c.loop-i.i (omega arith) (sym c.is_marked.ensures ∙ w.0.true)))
+          (λ w. w.1 ∙ c.loop-i.invariant.2 ∙ ap length (sym (points-same a.on ms c.loop-i.i (omega arith) (sym c.is_marked.ensures ∙ w.0.left))))
+          c.if-is_marked.branch,
+    )
+
+pub returns : goal.returns
+returns c =
+    let a = c.args in
+    let all : take c.loop-i.i (marks a.bytes.now) ≡ marks a.bytes.now = take_all c.loop-i.i (marks a.bytes.now) (omega arith) in
+    rw all at c.loop-i.invariant.2

@@ -1,0 +1,12 @@
+-- `stored::count_points` meets its contract. The loop's invariant: the points of the records passed are counted. Assumes nothing.
+use mathlib.Core.Path.{◌≡◌}
+use Prim.Native.Nat.{◌≤◌, ◌-◌}
+use lib.ListN.{length, take}
+use Rattle.stored.specs.Marks.{marks, marked_points}
+use Rattle.stored.proofs.count_points.Given as goal
+
+abbrev pub invariant-loop-i : goal.invariant-loop-i
+invariant-loop-i l = (l.i ≤ l.count) × (l.count ≡ length (marks l.bytes)) × (l.found ≡ length (marked_points l.on (take l.i (marks l.bytes))))
+
+abbrev pub decreases-loop-i : goal.decreases-loop-i
+decreases-loop-i l = l.count - l.i

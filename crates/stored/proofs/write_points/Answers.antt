@@ -1,0 +1,69 @@
+-- `stored::write_points` meets its contract. The loop's invariant: the points of the records passed are written. Assumes nothing.
+use mathlib.Core.Path.{sym, ◌∙◌}
+use mathlib.Core.Logic.{⊎_elim}
+use Prim.Native.Nat.{◌<◌, ◌-◌}
+use native.Mathlib.Omega.{arith}
+use borrow.Author.Rules.{rules}
+use lib.ListN.{length, get_or-map}
+use Rattle.stored.specs.Marks.{Mark, no_mark, marks}
+use Rattle.stored.proofs.Points.{none_written, all-written, room-left, written-more, written_same}
+use Rattle.stored.proofs.write_points.Goals as goal
+
+record-count-requires : Need-record-count-requires invariant-loop decreases-loop
+
+record-count-requires c κs = search rules
+
+pub loop-i-init : goal.loop-i-init
+loop-i-init c =
+    let a = c.args in
+    (search rules, c.record_count-count.ensures, none_written a.on (marks a.bytes.now) a.room.now)
+
+pub is_marked-requires : goal.is_marked-requires
+is_marked-requires c = record { laid_out = search rules; i_in_bounds = omega arith }
+
+pub point_at-requires : goal.point_at-requires
+point_at-requires c = record { laid_out = search rules; i_in_bounds = omega arith }
+
+-- The record is to be written, so there is room for it.
+fits : (c : After-point-at) → c.before.before.before.before.loop-i.at < length c.before.before.before.before.before.before.before.before.args.room.now
+fits c =
+    let a = c.args in
+    room-left a.on (marks a.bytes.now) a.room.now c.loop-i.i c.loop-i.at c.loop-i.room (omega arith) c.loop-i.invariant.2 c.requires.bytes_in_bounds (sym c.is_marked.ensures ∙ c.if-is_marked.true)
+
+pub offset_bounds-room-at : goal.offset_bounds-room-at
+offset_bounds-room-at c = omega (arith, fits c)
+
+pub bounds-room-at : goal.bounds-room-at
+bounds-room-at c = omega (arith, fits c, c.loop-i.invariant.2.long)
+
+pub overflow_add-at : goal.overflow_add-at
+overflow_add-at c = omega (arith, fits c)
+
+pub overflow_add-i : goal.overflow_add-i
+overflow_add-i c = omega arith
+
+pub loop-i-smaller : goal.loop-i-smaller
+loop-i-smaller c = omega arith
+
+pub loop-i-preserved : goal.loop-i-preserved
+loop-i-preserved c =
+    let a = c.args in
+    let ms = marks a.bytes.now in (
+      omega arith,
+      c.loop-i.invariant.1,
+      ⊎_elim
+          (λ w.
+          let point = w.1.ensures ∙ get_or-map (λ ((goal.at.loop-i-preserved c).After-is_marked : Mark). c.point) ms c.loop-i.i no_mark in
+          rw (w.3, w.2, point)
+          (written-more a.on ms a.room.now c.loop-i.i c.loop-i.at c.loop-i.room (omega arith) c.loop-i.invariant.2 c.requires.bytes_in_bounds (sym c.is_marked.ensures ∙ w.0.true)))
+          (λ w.
+          rw (w.2, w.1)
+          (written_same a.on ms a.room.now c.loop-i.i c.loop-i.at c.loop-i.room (omega arith) c.loop-i.invariant.2 (sym c.is_marked.ensures ∙ w.0.left)))
+          c.if-is_marked.branch,
+    )
+
+pub shape_of-room : goal.shape_of-room
+shape_of-room c = c.loop-i.invariant.2.long
+
+pub returns : goal.returns
+returns c = let w = all-written (omega arith) c.loop-i.invariant.2 in record { value = w.0; room_after = w.1 }

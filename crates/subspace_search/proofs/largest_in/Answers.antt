@@ -1,0 +1,21 @@
+-- `subspace_search::largest_in` meets its contract: the search from nothing finds the largest space. Assumes nothing.
+use mathlib.Core.Path.{refl, ap, ◌∙◌}
+use native.Mathlib.Omega.{arith}
+use Rattle.basis.specs.declared.Basis.{Basis}
+use Rattle.basis.specs.declared.ShortList.{ShortList}
+use Rattle.basis.specs.Reduced.{basis_of}
+use Rattle.point_sets.specs.Sets.{member}
+use Rattle.subspace_search.specs.Search.{longest}
+use Rattle.subspace_search.proofs.Longest.{longest-largest}
+use Rattle.subspace_search.proofs.Steps.{longer-none}
+use Rattle.subspace_search.proofs.largest_in.Goals as goal
+
+pub search-found-requires : goal.search-found-requires
+search-found-requires c = (refl, (refl, ((c.requires.n_le_set_variables, omega arith), c.following_words-words.ensures)))
+
+pub returns : goal.returns
+returns c =
+    let n = c.args.n in
+    let set = member c.args.set.now in
+    let taken : ShortList → Basis = λ l. record { vectors = l.values; len = l.len } in
+    ap taken c.search-found.ensures ∙ ap basis_of (longer-none (longest n n set) ∙ longest-largest n set c.requires.set_value)
