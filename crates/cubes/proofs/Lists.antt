@@ -31,6 +31,7 @@ flat_map-mem {A} g (a ∷ l) y h = go (append-mem (g a) (flat_map g l) y h) (fla
 
 pub mem-flat_map : {A B : Type 0} (g : A → List B) (l : List A) (a : A) (y : B) → Mem a l → Mem y (g a) → Mem y (flat_map g l)
 unfolding flat_map
+mem-flat_map {A = A} {B = B} g [] a y m h = elim m [ ]
 mem-flat_map g (b ∷ l) a y (inl e) h = mem-append (g b) (flat_map g l) y (inl (subst (λ z. Mem y (g z)) e h))
 mem-flat_map g (b ∷ l) a y (inr k) h = mem-append (g b) (flat_map g l) y (inr (mem-flat_map g l a y k h))
 
@@ -42,6 +43,7 @@ keep-mem f (b ∷ l) a h = cond_cases (λ m. Mem a m → Mem a (b ∷ l) × (f a
 
 pub mem-keep : {A : Type 0} (f : A → Bool) (l : List A) (a : A) → Mem a l → f a ≡ true → Mem a (keep f l)
 unfolding keep
+mem-keep {A = A} f [] a h e = elim h [ ]
 mem-keep f (b ∷ l) a (inl q) e = rw (subst (λ z. f z ≡ true) q e) (inl q)
 mem-keep f (b ∷ l) a (inr h) e = cond_cases (Mem a) (f b) (b ∷ keep f l) (keep f l) (λ c. inr (mem-keep f l a h e)) (λ c. mem-keep f l a h e)
 

@@ -78,6 +78,7 @@ select-some f m = (
 )
   where
     some : (l : List ℕ) (x : ℕ) → Mem x l → 0 < length l
+    some [] x h = elim h [ ]
     some (y ∷ l) x i = omega arith
 
 module _ (n : ℕ) (on free : ℕ → Bool) (c : Candidate) (k : IsCandidate n c) where

@@ -51,6 +51,7 @@ module _ (f : ℕ → Bool) where
 
   pub until-next : (l : List ℕ) → length (until f l) < length l → f (get_or l (length (until f l)) 0) ≡ true
   unfolding until
+  until-next [] m = elim m [ ]
   until-next (b ∷ l) h = go (f b) refl h (until-next l)
     where
       go : (t : Bool) → f b ≡ t → length (cond t [] (b ∷ until f l)) < suc (length l) → (length (until f l) < length l → f (get_or l (length (until f l)) 0) ≡ true)
@@ -70,6 +71,7 @@ module _ (f : ℕ → Bool) where
 
   pub split-first : (l : List ℕ) → length (until f l) < length l → split f l ≡ until f l ∷ split f (drop (suc (length (until f l))) l)
   unfolding until split
+  split-first [] m = elim m [ ]
   split-first (b ∷ l) h = go (f b) h (split-first l)
     where
       go : (t : Bool) → length (cond t [] (b ∷ until f l)) < suc (length l) → (length (until f l) < length l → split f l ≡ until f l ∷ split f (drop (suc (length (until f l))) l))

@@ -131,6 +131,7 @@ ordered_at R (a ∷ l) d o zero (suc j) h k = o.0 (get_or l j d) (get_d-mem l j 
 ordered_at R (a ∷ l) d o (suc i) (suc j) h k = ordered_at R l d o.1 i j (le_of_suc-le-suc h) (le_of_suc-le-suc k)
 
 pub mem-at : {A : Type 0} (l : List A) (d x : A) → Mem x l → (i : ℕ) × (i < length l) × (x ≡ get_or l i d)
+mem-at {A = A} [] d x h = elim h [ ]
 mem-at (a ∷ l) d x (inl e) = (0, zero-lt-suc (length l), e)
 mem-at (a ∷ l) d x (inr m) = let k = mem-at l d x m in (suc k.0, omega (arith, k.1), k.2)
 

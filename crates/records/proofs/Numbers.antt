@@ -47,6 +47,7 @@ module _ (found : Walk) where
   layout-told : (numbers : List ℕ) → Mem (fault_number found) numbers
       → (first_fault (layout_tests numbers found) ≡ fault_number found) × (first_place (layout_tests numbers found) ≡ fault_place found)
   unfolding first_fault first_place
+  layout-told [] h = elim h [ ]
   layout-told (number ∷ numbers) m = go (eqb (fault_number found) number) refl m (layout-told numbers)
     where
       go : (t : Bool) → eqb (fault_number found) number ≡ t → Mem (fault_number found) (number ∷ numbers)

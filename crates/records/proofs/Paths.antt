@@ -174,6 +174,7 @@ module _ (rules : Rules) where
 
   -- The first tests of a list are tests of it, and so are the others.
   mem-left : (ts us : List Test) (t : Test) → Mem t ts → Mem t (ts ++ us)
+  mem-left [] us t h = elim h [ ]
   mem-left (u ∷ ts) us t (inl e) = inl e
   mem-left (u ∷ ts) us t (inr m) = inr (mem-left ts us t m)
 

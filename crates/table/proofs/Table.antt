@@ -38,6 +38,7 @@ good-count n = (
 
 pub inside : (n : ℕ) (ps : List ℕ) → outside n ps ≡ false → (p : ℕ) → Mem p ps → p < 2 ^ n
 unfolding outside
+inside n [] e p h = elim h [ ]
 inside n (q ∷ ps) e p (inl z) = rw z (leb-false (2 ^ n) q (or-none (leb (2 ^ n) q) (outside n ps) e).0)
 inside n (q ∷ ps) e p (inr m) = inside n ps (or-none (leb (2 ^ n) q) (outside n ps) e).1 p m
 
@@ -103,6 +104,7 @@ shared-mem (p ∷ on) free e = elim (or_cases (holds free p) (shared on free) e)
 
 pub mem-shared : (on free : List ℕ) (p : ℕ) → Mem p on → Mem p free → shared on free ≡ true
 unfolding shared
+mem-shared [] free p h m = elim h [ ]
 mem-shared (q ∷ on) free p (inl z) m = or_l (holds free q) (shared on free) ((holds-mem free q).1 (rw z at m))
 mem-shared (q ∷ on) free p (inr k) m = or_r (holds free q) (shared on free) (mem-shared on free p k m)
 

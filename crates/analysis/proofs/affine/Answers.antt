@@ -18,7 +18,7 @@ pub returns-then-fault-ne0 : goal.returns-then-fault-ne0
 returns-then-fault-ne0 c =
     let a = c.args in
     let d = c.table_fault-fault in
-    (affine-ways a.n a.on.now a.room-1.now).faulty d.result (on-refused a.n a.on.now d.result d.ensures c.if-fault-ne0.true) c.if-fault-ne0.true
+    (affine-ways a.n a.on.now a.room.now).faulty d.result (on-refused a.n a.on.now d.result d.ensures c.if-fault-ne0.true) c.if-fault-ne0.true
     c.no_affine.result c.no_affine.ensures
 
 -- Past the first test: the arguments, and that the on points alone are an accepted table.
@@ -30,7 +30,7 @@ module _ (c : Else-fault-ne0) where
   on = c.args.on.now
 
   abbrev room : List ℕ
-  room = c.args.room-1.now
+  room = c.args.room.now
 
   passed : table_fault n on [] ≡ 0
   passed = sym c.table_fault-fault.ensures ∙ c.if-fault-ne0.false
@@ -43,7 +43,7 @@ returns-then-count-eq0 c =
     (affine-ways (n (goal.at.returns-then-count-eq0 c).Else-fault-ne0) (on (goal.at.returns-then-count-eq0 c).Else-fault-ne0) (room (goal.at.returns-then-count-eq0 c).Else-fault-ne0)).faulty _ (on-empty (n (goal.at.returns-then-count-eq0 c).Else-fault-ne0) (on (goal.at.returns-then-count-eq0 c).Else-fault-ne0) (passed (goal.at.returns-then-count-eq0 c).Else-fault-ne0) c.if-count-eq0.true) (λ z. omega arith) c.no_affine-then-count-eq0.result c.no_affine-then-count-eq0.ensures
 
 -- Past the second test there is an on point, so that nothing but the room is refused.
-sound : (c : Else-count-eq0) → first_fault (on_tests (n c.before) (on c.before)) ≡ 0
+sound : (c : Else-count-eq0) → first_fault (on_tests (n c{-Else-fault-ne0-}) (on c{-Else-fault-ne0-})) ≡ 0
 sound c = on-passed (n c{-Else-fault-ne0-}) (on c{-Else-fault-ne0-}) (passed c{-Else-fault-ne0-}) c.if-count-eq0.false
 
 pub returns-then-room-count : goal.returns-then-room-count
@@ -52,7 +52,7 @@ returns-then-room-count c =
 
 pub directions-basis-requires : goal.directions-basis-requires
 directions-basis-requires c =
-    (pos_of_ne-zero c.if-count-eq0.false, on-flags (table (goal.at.directions-basis-requires c).Else-fault-ne0))
+    record { on_nonzero = pos_of_ne-zero c.if-count-eq0.false; on_value = on-flags (table (goal.at.directions-basis-requires c).Else-fault-ne0) }
 
 -- Where the directions of the on points were found.
 abbrev directed : After-leads → After-directions-basis

@@ -16,13 +16,13 @@ use Rattle.projection.proofs.Restrictions.{completed-kept}
 use Rattle.analysis.specs.Spaces.{completed_restriction}
 use Rattle.analysis.proofs.Completions.{analyse-numbers, analyse-ways}
 use Rattle.analysis.proofs.analyse.Goals as goal
-use Rattle.analysis.proofs.analyse.Goals.{Else-fault-ne0}
+use Rattle.analysis.proofs.analyse.Goals.{After-count_kept-count, After-slice_known-2-1, Else-fault-ne0}
 
 pub returns-then-fault-ne0 : goal.returns-then-fault-ne0
 returns-then-fault-ne0 c =
     let a = c.args in
     let d = c.table_fault-fault in
-    (analyse-ways a.n a.on.now a.free.now a.room-1.now).faulty d.result d.ensures c.if-fault-ne0.true c.no_analysis.result c.no_analysis.ensures
+    (analyse-ways a.n a.on.now a.free.now a.room.now).faulty d.result d.ensures c.if-fault-ne0.true c.no_analysis.result c.no_analysis.ensures
 
 -- Past the first test: the arguments, and that they are an accepted table.
 module _ (c : Else-fault-ne0) where
@@ -36,7 +36,7 @@ module _ (c : Else-fault-ne0) where
   free = c.args.free.now
 
   abbrev room : List ℕ
-  room = c.args.room-1.now
+  room = c.args.room.now
 
   passed : table_fault n on free ≡ 0
   passed = sym c.table_fault-fault.ensures ∙ c.if-fault-ne0.false
@@ -51,9 +51,9 @@ pub count_kept-count-requires : goal.count_kept-count-requires
 count_kept-count-requires c = (table (goal.at.count_kept-count-requires c).Else-fault-ne0).few
 
 -- The points that are kept are counted: they are the restriction of the completed function.
-module _ (c : After-count-kept) where
+module _ (c : After-count_kept-count) where
   abbrev completing : After-complete-completed
-  completing = c
+  completing = c{-After-complete-completed-}
 
   abbrev tested : Else-fault-ne0
   tested = completing.before
@@ -61,7 +61,7 @@ module _ (c : After-count-kept) where
   abbrev mask : ℕ
   mask = c.leads-leads.result
 
-  restricted : kept (n tested) mask (flagged completing.complete-completed.result.flags-1) ≡ completed_restriction (n tested) (on tested) (free tested)
+  restricted : kept (n tested) mask (flagged completing.complete-completed.result.flags) ≡ completed_restriction (n tested) (on tested) (free tested)
   restricted = completed-kept completing.complete-completed.ensures mask c.leads-leads.ensures
 
   counted : c.count_kept-count.result ≡ length (completed_restriction (n tested) (on tested) (free tested))
@@ -80,15 +80,15 @@ write_kept-requires c =
     }
 
 -- The points are written, since the room was large enough; the basis is still the one that was found.
-module _ (c : After-slice-known2) where
+module _ (c : After-slice_known-2-1) where
   abbrev large : Else-room-count
-  large = c
+  large = c{-Else-room-count-}
 
-  abbrev counting : After-count-kept
+  abbrev counting : After-count_kept-count
   counting = large.before
 
-  found : IsBasis (completing counting).complete-completed.result.basis-1 × (n (tested counting) ≤ max_variables)
-  found = ((completing counting).complete-completed.ensures.basis-1.basis-1, (table (tested counting)).few)
+  found : IsBasis (completing counting).complete-completed.result.basis × (n (tested counting) ≤ max_variables)
+  found = ((completing counting).complete-completed.ensures.basis.basis, (table (tested counting)).few)
 
 pub canonical-canonical-requires : goal.canonical-canonical-requires
 canonical-canonical-requires c = found c

@@ -13,13 +13,13 @@ use Rattle.space.specs.Completion.{completed_points}
 use Rattle.projection.specs.Masks.{kept}
 use Rattle.analysis.proofs.Completions.{all-kept, complete-numbers, complete-ways}
 use Rattle.analysis.proofs.complete.Goals as goal
-use Rattle.analysis.proofs.complete.Goals.{Else-fault-ne0}
+use Rattle.analysis.proofs.complete.Goals.{After-count_kept-count, Else-fault-ne0}
 
 pub returns-then-fault-ne0 : goal.returns-then-fault-ne0
 returns-then-fault-ne0 c =
     let a = c.args in
     let d = c.table_fault-fault in
-    (complete-ways a.n a.on.now a.free.now a.room-1.now).faulty d.result d.ensures c.if-fault-ne0.true c.no_completion.result c.no_completion.ensures
+    (complete-ways a.n a.on.now a.free.now a.room.now).faulty d.result d.ensures c.if-fault-ne0.true c.no_completion.result c.no_completion.ensures
 
 -- Past the first test: the arguments, and that they are an accepted table.
 module _ (c : Else-fault-ne0) where
@@ -33,7 +33,7 @@ module _ (c : Else-fault-ne0) where
   free = c.args.free.now
 
   abbrev room : List ℕ
-  room = c.args.room-1.now
+  room = c.args.room.now
 
   passed : table_fault n on free ≡ 0
   passed = sym c.table_fault-fault.ensures ∙ c.if-fault-ne0.false
@@ -48,14 +48,14 @@ pub count_kept-count-requires : goal.count_kept-count-requires
 count_kept-count-requires c = (table (goal.at.count_kept-count-requires c).Else-fault-ne0).few
 
 -- The points are counted: they are those of the completed function.
-module _ (c : After-count-kept) where
+module _ (c : After-count_kept-count) where
   abbrev completing : After-complete-completed
-  completing = c
+  completing = c{-After-complete-completed-}
 
   abbrev tested : Else-fault-ne0
   tested = completing.before
 
-  points : kept (n tested) 0 (flagged completing.complete-completed.result.flags-1) ≡ completed_points (n tested) (on tested) (free tested)
+  points : kept (n tested) 0 (flagged completing.complete-completed.result.flags) ≡ completed_points (n tested) (on tested) (free tested)
   points = all-kept (n tested) (on tested) (free tested) completing.complete-completed.result completing.complete-completed.ensures
 
   counted : c.count_kept-count.result ≡ length (completed_points (n tested) (on tested) (free tested))

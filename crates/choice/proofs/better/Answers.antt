@@ -19,10 +19,10 @@ returns-then-not-fits c =
     better-wide (prime_by a.m a.on 0) a.m a.d a.x a.entry a.best (sym c.fits2.ensures ∙ not-true c.fits2.result c.if-not-fits.true)
 
 pub least_point-point-requires : goal.least_point-point-requires
-least_point-point-requires c =entry-positive c.args.d c.args.entry (six c.requires.search) c.requires.mem
+least_point-point-requires c = entry-positive c.args.d c.args.entry (six c.requires.search) c.requires.mem
 
 -- The entry fits.
-fits : (c : Else-not-fits) → fits_entry c.before.before.args.m c.before.before.args.entry ≡ true
+fits : (c : Else-not-fits) → fits_entry c.args.m c.args.entry ≡ true
 fits c = sym c.fits2.ensures ∙ not-false c.fits2.result c.if-not-fits.false
 
 pub returns-then-stays : goal.returns-then-stays

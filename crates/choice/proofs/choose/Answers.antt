@@ -17,13 +17,13 @@ use Rattle.choice.specs.Search.{found_of}
 use Rattle.choice.specs.Chosen.{max_chosen, chosen_by}
 use Rattle.choice.proofs.Taking.{primes-by, search-at, TakenTo, taken_start, taken-covered, taken-nothing, taken-one, few-points, taken-end}
 use Rattle.choice.proofs.choose.Goals as goal
-use Rattle.choice.proofs.choose.Goals.{Else-flags-flag_place, Else-not-found}
+use Rattle.choice.proofs.choose.Goals.{After-first_holding-found, Else-flags-flag_place, Else-not-found}
 
 pub mask_of-mask-requires : goal.mask_of-mask-requires
-mask_of-mask-requires c =outside-more c.args.m c.args.on.now c.requires.m_le_max_listed c.requires.on_value.0
+mask_of-mask-requires c = outside-more c.args.m c.args.on.now c.requires.m_le_max_listed c.requires.on_value.0
 
 pub loop-i-init : goal.loop-i-init
-loop-i-init c =taken_start c.args.m c.args.on.now
+loop-i-init c = taken_start c.args.m c.args.on.now
 
 -- A point at a place of the list has a flag, and the flag tells whether it is covered.
 has-flag : (m : ℕ) (on : List ℕ) (i : ℕ) → m ≤ 6 → outside m on ≡ false → i < length on → get_or on i 0 < max_points
@@ -45,22 +45,20 @@ loop-i-preserved-then-flags-flag_place c =
 
 pub first_holding-found-requires : goal.first_holding-found-requires
 first_holding-found-requires c =
-    let on = c.args.on.now in (
-      c.table-table.ensures,
-      search-at c.args.m on c.mask_of-mask.result (get_or on c.loop-i.i 0) c.requires.m_le_max_listed c.requires.on_value.0 c.mask_of-mask.ensures
-          (inside-at c.args.m on c.requires.on_value.0 c.loop-i.i c.loop-i-test.true),
-    )
+    let on = c.args.on.now in record {
+      table_value = c.table-table.ensures;
+      search = search-at c.args.m on c.mask_of-mask.result (get_or on c.loop-i.i 0) c.requires.m_le_max_listed c.requires.on_value.0 c.mask_of-mask.ensures
+          (inside-at c.args.m on c.requires.on_value.0 c.loop-i.i c.loop-i-test.true);
+    }
 
 -- What the search found is the first of the primes of the function.
-first : (c : After-first-holding) → let l = c.before.before.before.before.before.before in let s = l.before.before.before.before in
-    found_of c.first_holding-found.result ≡ first_holding (primes_of c.args.m c.args.on.now) (get_or c.args.on.now c.loop-i.i 0)
+first : (c : After-first_holding-found) →    found_of c.first_holding-found.result ≡ first_holding (primes_of c.args.m c.args.on.now) (get_or c.args.on.now c.loop-i.i 0)
 first c =
     let on = c.args.on.now in
     c.first_holding-found.ensures.result_value ∙ ap (λ z. first_holding z (get_or on c.loop-i.i 0)) (sym (primes-by c.args.m on c.mask_of-mask.result c.mask_of-mask.ensures))
 
 -- The point is not covered.
-uncovered : (c : Else-flags-flag_place) → let l = c.before.before.before.before in let s = l.before.before.before.before in
-    covered (chosen_by c.loop-i.choice c.loop-i.choice.count) (get_or c.args.on.now c.loop-i.i 0) ≡ false
+uncovered : (c : Else-flags-flag_place) →    covered (chosen_by c.loop-i.choice c.loop-i.choice.count) (get_or c.args.on.now c.loop-i.i 0) ≡ false
 uncovered c =
     flag_is c.loop-i.invariant c.requires.m_le_max_listed c.requires.on_value.0 c.loop-i-test.true c.flag_place.result c.flag_place.ensures false c.if-flags-flag_place.false
 
@@ -70,12 +68,12 @@ loop-i-preserved-then-not-found c =
     (not-true c.first_holding-found.result.any c.if-not-found.true)
 
 -- There is room for one more.
-room : (c : Else-not-found) → c.before.before.before.before.before.before.before.before.loop-i.choice.count < max_chosen
+room : (c : Else-not-found) → c.loop-i.choice.count < max_chosen
 room c =
     omega (arith, c.loop-i.invariant.count, c.loop-i-test.true, few-points c.args.m c.args.on.now c.requires.m_le_max_listed c.requires.on_value.0 c.requires.on_value.1)
 
 -- What was found is an entry with a least point.
-entry : (c : Else-not-found) → let f = c.before.before.first_holding-found.result in
+entry : (c : Else-not-found) → let f = c.first_holding-found.result in
     EntryAt c.args.m f.degree f.point f.entry
 entry c = let f = c.first_holding-found in f.ensures.1 (not-false f.result.any c.if-not-found.false)
 

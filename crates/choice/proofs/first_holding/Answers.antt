@@ -20,7 +20,7 @@ lower : {m on x d : ℕ} → Search m on m x → d ≤ m → Search m on d x
 lower s h = record { few = s.few; inside = s.inside; short = h; point = s.point }
 
 pub first_of_degree-found-requires : goal.first_of_degree-found-requires
-first_of_degree-found-requires c =(c.requires.table_value, lower c.requires.search c.loop-found.invariant.0)
+first_of_degree-found-requires c = record { table_value = c.requires.table_value; search = lower c.requires.search c.loop-found.invariant.0 }
 
 pub returns-then-found : goal.returns-then-found
 returns-then-found c =

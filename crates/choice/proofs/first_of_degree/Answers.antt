@@ -27,13 +27,13 @@ loop-i-init c =
     (best-start (prime_by a.m a.on 0) a.m a.d a.x (six c.requires.search) (record { any = false; degree = 0; point = 0; entry = 0 }) refl)
 
 -- The place is before the end of the entries, and the entry is the table's.
-within : (c : In-loop-i) → c.before.loop-i.i < stop c.before.before.before.before.args.d
+within : (c : In-loop-i) → c.loop-i.i < stop c.args.d
 within c = omega (arith, c.loop-i-test.true, c.stop_of-end.ensures)
 
-last : (c : In-loop-i) → c.before.loop-i.i < entry_count
+last : (c : In-loop-i) → c.loop-i.i < entry_count
 last c =omega (arith, within c, (bounds c.args.d (six c.requires.search)).1)
 
-own : (c : In-loop-i) → get_or c.before.before.before.before.args.table.now c.before.loop-i.i 0 ≡ get_or entries c.before.loop-i.i 0
+own : (c : In-loop-i) → get_or c.args.table.now c.loop-i.i 0 ≡ get_or entries c.loop-i.i 0
 own c = ap (λ l. get_or l c.loop-i.i 0) c.requires.table_value
 
 pub offset_bounds-table-i : goal.offset_bounds-table-i
@@ -44,10 +44,10 @@ bounds-table-i c = last c
 
 pub better-best-requires : goal.better-best-requires
 better-best-requires c =
-    let b = c.loop-i in (
-      c.requires.search,
-      subst (λ (z : ℕ). Mem z (entries_of c.args.d)) (sym (own (goal.at.better-best-requires c).After-way_told-1)) (entry-mem c.args.d b.i (six c.requires.search) b.invariant.low (within (goal.at.better-best-requires c).After-way_told-1)),
-    )
+    let b = c.loop-i in record {
+      search = c.requires.search;
+      mem = subst (λ (z : ℕ). Mem z (entries_of c.args.d)) (sym (own (goal.at.better-best-requires c).After-way_told-1)) (entry-mem c.args.d b.i (six c.requires.search) b.invariant.low (within (goal.at.better-best-requires c).After-way_told-1));
+    }
 
 pub loop-i-preserved : goal.loop-i-preserved
 loop-i-preserved c =

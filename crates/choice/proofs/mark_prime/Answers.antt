@@ -23,7 +23,7 @@ loop-x-init c =
     (omega arith, marked_start (candidate_at a.d a.point a.entry) a.t5 long)
 
 pub holds_point-requires : goal.holds_point-requires
-holds_point-requires c =let k = c.requires in entry-positive c.args.d c.args.entry (omega (arith, k.few, k.short)) k.listed
+holds_point-requires c = let k = c.requires in entry-positive c.args.d c.args.entry (omega (arith, k.few, k.short)) k.listed
 
 -- The point is one of m variables.
 small : (m x : ℕ) → m ≤ 6 → x < 2 ^ m → x < max_points
@@ -37,7 +37,7 @@ pub loop-x-preserved : goal.loop-x-preserved
 loop-x-preserved c =
     let l = c.loop-x in
     let k = candidate_at c.args.d c.args.point c.args.entry in
-    let f = c.args.t5 in (
+    let f = c.args.flags in (
       omega (arith, c.loop-x-test.true),
       elim c.if-holds_point.branch [
         | inl w ↦ subst (MarkedTo k f (l.x + 1)) (sym (w.2 ∙ ap (λ (z : ℕ). set l.flags z true) w.1.ensures))
@@ -50,4 +50,4 @@ loop-x-preserved c =
 pub returns : goal.returns
 returns c =
     let l = c.loop-x in
-    marked-end c.requires c.args.t5 l.flags l.x (omega (arith, c.loop-x-test.false, c.point_count-size.ensures)) l.invariant.1
+    marked-end c.requires c.args.flags l.flags l.x (omega (arith, c.loop-x-test.false, c.point_count-size.ensures)) l.invariant.1

@@ -20,7 +20,7 @@ loop-i-init c =
     (omega arith, λ w. ap (λ (t : ℕ → Bool). some_point t (vectors_of c.args.basis) w) (fun_ext c.set_of-points.ensures))
 
 -- The vector at place i is one of the basis, and there is room for it.
-room : (c : After-points-1) → c.before.before.loop-i.i < max_variables
+room : (c : After-points-1) → c.loop-i.i < max_variables
 room c =
     vector-room c.args.basis c.requires.basis_within.basis c.loop-i.i c.loop-i-test.true
 
@@ -33,7 +33,7 @@ bounds-vectors-i c = room c
 pub moved_set-moved-requires : goal.moved_set-moved-requires
 moved_set-moved-requires c =
     let b = c.args.basis in
-    c.requires.basis_within.below (get_or b.vectors-1 c.loop-i.i 0) (vector-mem b c.requires.basis_within.basis c.loop-i.i c.loop-i-test.true)
+    c.requires.basis_within.below (get_or b.vectors c.loop-i.i 0) (vector-mem b c.requires.basis_within.basis c.loop-i.i c.loop-i-test.true)
 
 pub loop-i-preserved : goal.loop-i-preserved
 loop-i-preserved c =
@@ -41,9 +41,9 @@ loop-i-preserved c =
     let b = c.args.basis in
     let i = l.i in (
       omega arith,
-      λ w. spread-next (member c.either-points.result) (member l.points-1) (member c.moved_set-moved.result) (get_or b.vectors-1 i 0) (drop (i + 1) (vectors_of b))
+      λ w. spread-next (member c.either-points.result) (member l.points) (member c.moved_set-moved.result) (get_or b.vectors i 0) (drop (i + 1) (vectors_of b))
           c.moved_set-moved.ensures c.either-points.ensures w
-          ∙ ap (λ bs. some_point (member l.points-1) bs w) (sym (vector-next b c.requires.basis_within.basis i c.loop-i-test.true)) ∙ l.invariant.1 w,
+          ∙ ap (λ bs. some_point (member l.points) bs w) (sym (vector-next b c.requires.basis_within.basis i c.loop-i-test.true)) ∙ l.invariant.1 w,
     )
 
 pub returns : goal.returns
@@ -52,4 +52,4 @@ returns c w =
     let l = c.before.loop-i in
     let s = c.before.before.before.before.before in
     let b = s.args.basis in
-    ap (λ bs. some_point (member l.points-1) bs w) (sym (vector-end b s.requires.1.basis l.i (omega arith))) ∙ l.invariant.1 w
+    ap (λ bs. some_point (member l.points) bs w) (sym (vector-end b s.requires.1.basis l.i (omega arith))) ∙ l.invariant.1 w

@@ -12,12 +12,12 @@ use Rattle.compare.specs.Answer.{table_size, Comparable, compare_fault}
 use Rattle.compare.proofs.Refusals.{compare-exactly}
 use Rattle.compare.proofs.Answering.{compare-refused, compare-answer}
 use Rattle.compare.proofs.compare.Goals as goal
-use Rattle.compare.proofs.compare.Goals.{Else-fault-ne0}
+use Rattle.compare.proofs.compare.Goals.{After-point_count-size, Else-fault-ne0}
 
 pub returns-then-fault-ne0 : goal.returns-then-fault-ne0
 returns-then-fault-ne0 c =
     let a = c.args in
-    compare-refused a.left.now a.right.now a.first a.room-1.now c.compare_fault-fault.result c.compare_fault-fault.ensures c.if-fault-ne0.true
+    compare-refused a.left.now a.right.now a.first a.room.now c.compare_fault-fault.result c.compare_fault-fault.ensures c.if-fault-ne0.true
 
 -- Both tables, the first point and the room, as the call was given them.
 abbrev given : Else-fault-ne0 → Start
@@ -41,12 +41,12 @@ pub point_count-size-requires : goal.point_count-size-requires
 point_count-size-requires c = omega (arith, c.variables.ensures, few (goal.at.point_count-size-requires c).Else-fault-ne0)
 
 -- The number of points, as it was computed.
-size : (c : After-point-count)
-    →c.point_count-size.result ≡ table_size (given c).args.left.now
+size : (c : After-point_count-size)
+    →c.point_count-size.result ≡ table_size (given c{-Else-fault-ne0-}).args.left.now
 size c = c.point_count-size.ensures ∙ ap (λ (n : ℕ). 2 ^ n) c.variables.ensures
 
-within : (c : After-point-count) → c.point_count-size.result ≤ max_points
-within c = omega (arith, size c, pow_mono (few c))
+within : (c : After-point_count-size) → c.point_count-size.result ≤ max_points
+within c = omega (arith, size c, pow_mono (few c{-Else-fault-ne0-}))
 
 pub marks_of-left_marks-requires : goal.marks_of-left_marks-requires
 marks_of-left_marks-requires c = (sound (goal.at.marks_of-left_marks-requires c).Else-fault-ne0).0.left-sound
@@ -59,10 +59,13 @@ count_differing-total-requires c = within (goal.at.count_differing-total-require
 
 pub write_differing-stopped-requires : goal.write_differing-stopped-requires
 write_differing-stopped-requires c =
-    (omega (arith, (sound (goal.at.write_differing-stopped-requires c).Else-fault-ne0).1, size (goal.at.write_differing-stopped-requires c).After-point_count-size), within (goal.at.write_differing-stopped-requires c).After-point_count-size)
+    record {
+      first_le_size = omega (arith, (sound (goal.at.write_differing-stopped-requires c).Else-fault-ne0).1, size (goal.at.write_differing-stopped-requires c).After-point_count-size);
+      size_le_max_points = within (goal.at.write_differing-stopped-requires c).After-point_count-size;
+    }
 
 pub returns : goal.returns
 returns c =
     let a = (given (goal.at.returns c).Else-fault-ne0).args in
-    compare-answer a.left.now a.right.now a.first a.room-1.now (none (goal.at.returns c).Else-fault-ne0) c.marks_of-left_marks.result c.marks_of-right_marks.result c.marks_of-left_marks.ensures c.marks_of-right_marks.ensures
+    compare-answer a.left.now a.right.now a.first a.room.now (none (goal.at.returns c).Else-fault-ne0) c.marks_of-left_marks.result c.marks_of-right_marks.result c.marks_of-left_marks.ensures c.marks_of-right_marks.ensures
     (size (goal.at.returns c).After-point_count-size) c.count_differing-total.ensures c.write_differing-stopped.ensures.value c.write_differing-stopped.ensures.room_after

@@ -9,7 +9,7 @@ use Rattle.stored.proofs.Accepting.{stored-laid, stored-accepted}
 use Rattle.compare.specs.Answer.{table_size}
 use Rattle.compare.proofs.Refusals.{found_left, found_right, found-pair, compare-counts, compare-first, compare-sound}
 use Rattle.compare.proofs.compare_fault.Goals as goal
-use Rattle.compare.proofs.compare_fault.Goals.{Else-left_fault-ne0, Else-n-variables, Else-right_fault-ne0}
+use Rattle.compare.proofs.compare_fault.Goals.{After-point_count, Else-left_fault-ne0, Else-n-variables, Else-right_fault-ne0}
 
 pub returns-then-left_fault-ne0 : goal.returns-then-left_fault-ne0
 returns-then-left_fault-ne0 c =
@@ -31,12 +31,12 @@ returns-then-right_fault-ne0 c =
     found_right a.left.now a.right.now a.first (left-sound (goal.at.returns-then-right_fault-ne0 c).Else-left_fault-ne0) c.stored_fault-right_fault.result c.stored_fault-right_fault.ensures c.if-right_fault-ne0.true
 
 -- So is the right one.
-right-sound : (c : Else-right_fault-ne0) → stored_fault (given c.before.before.before).args.right.now ≡ 0
+right-sound : (c : Else-right_fault-ne0) → stored_fault (given c{-Else-left_fault-ne0-}).args.right.now ≡ 0
 unfolding stored_fault
 right-sound c = sym (ap (λ (f : Fault). f.number) c.stored_fault-right_fault.ensures) ∙ c.if-right_fault-ne0.false
 
 pub variables-n-requires : goal.variables-n-requires
-variables-n-requires c =stored-laid (given (goal.at.variables-n-requires c).Else-left_fault-ne0).args.left.now (left-sound (goal.at.variables-n-requires c).Else-left_fault-ne0)
+variables-n-requires c = stored-laid (given (goal.at.variables-n-requires c).Else-left_fault-ne0).args.left.now (left-sound (goal.at.variables-n-requires c).Else-left_fault-ne0)
 
 pub variables-requires : goal.variables-requires
 variables-requires c =
@@ -59,8 +59,8 @@ point_count-requires c =
     omega (arith, c.variables-n.ensures, (stored-accepted (given (goal.at.point_count-requires c).Else-left_fault-ne0).args.left.now (left-sound (goal.at.point_count-requires c).Else-left_fault-ne0)).few)
 
 -- The number of points, as it was computed.
-size : (c : After-point-count)
-    →c.point_count.result ≡ table_size (given c).args.left.now
+size : (c : After-point_count)
+    →c.point_count.result ≡ table_size (given c{-Else-left_fault-ne0-}).args.left.now
 size c = c.point_count.ensures ∙ ap (λ (n : ℕ). 2 ^ n) c.variables-n.ensures
 
 pub returns-then-first-point_count : goal.returns-then-first-point_count

@@ -17,7 +17,7 @@ pub loop-left-init : goal.loop-left-init
 loop-left-init c = (omega arith, omega arith, refl, refl)
 
 pub push-vectors-requires : goal.push-vectors-requires
-push-vectors-requires c = let l = c.loop-left in (l.invariant.2, omega arith)
+push-vectors-requires c = let l = c.loop-left in record { self_value = l.invariant.2; len_lt_max_variables = omega arith }
 
 pub loop-left-preserved : goal.loop-left-preserved
 loop-left-preserved c =
@@ -33,11 +33,11 @@ loop-left-preserved c =
 
 -- None are left.
 whole : (d entry : ℕ) (s : ShortList) (rest left : ℕ) → left ≡ 0 → s ≡ short (listed s) → listed s ++ vectors_of left rest ≡ vectors_of d entry
-    → ◌≡◌ {A = Basis} (record { vectors = s.values-1; len = s.len }) (basis_of (vectors_of d entry))
+    → ◌≡◌ {A = Basis} (record { vectors = s.values; len = s.len }) (basis_of (vectors_of d entry))
 unfolding vectors_of
 whole d entry s rest left z e h =
     let q : listed s ++ [] ≡ vectors_of d entry = ap (λ (k : ℕ). listed s ++ vectors_of k rest) (sym z) ∙ h in
-    ap (λ (x : ShortList). record { vectors = x.values-1; len = x.len }) e ∙ ap basis_of (sym (append-nil (listed s)) ∙ q)
+    ap (λ (x : ShortList). record { vectors = x.values; len = x.len }) e ∙ ap basis_of (sym (append-nil (listed s)) ∙ q)
 
 pub returns : goal.returns
 returns c =

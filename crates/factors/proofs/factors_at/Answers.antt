@@ -14,22 +14,28 @@ pub loop-i-init : goal.loop-i-init
 loop-i-init c = (omega arith, refl, refl)
 
 pub offset_bounds-values-i : goal.offset_bounds-values-i
-offset_bounds-values-i c =omega (arith, short-few c.args.masks c.requires.masks_value (search rules))
+offset_bounds-values-i c = omega (arith, short-few c.args.masks c.requires.masks_value (search rules))
 
 pub bounds-values-i : goal.bounds-values-i
-bounds-values-i c =omega (arith, short-few c.args.masks c.requires.masks_value (search rules))
+bounds-values-i c = omega (arith, short-few c.args.masks c.requires.masks_value (search rules))
 
 pub push-constants-requires : goal.push-constants-requires
 push-constants-requires c =
     let l = c.loop-i in
     let f : ℕ → ℕ = λ mask. constant_at mask c.args.point in
-    (mapped-again f c.args.masks c.requires.masks_value l.i l.constants l.invariant.1, omega (arith, mapped-len f c.args.masks c.requires.masks_value l.i l.constants l.invariant.1 (omega arith), short-few c.args.masks c.requires.masks_value (search rules)))
+    record {
+      self_value = mapped-again f c.args.masks c.requires.masks_value l.i l.constants l.invariant.1;
+      len_lt_max_variables = omega (arith, mapped-len f c.args.masks c.requires.masks_value l.i l.constants l.invariant.1 (omega arith), short-few c.args.masks c.requires.masks_value (search rules));
+    }
 
 pub push-written-requires : goal.push-written-requires
 push-written-requires c =
     let l = c.loop-i in
     let f = substitute_mask (listed c.args.equations) in
-    (mapped-again f c.args.masks c.requires.masks_value l.i l.written l.invariant.2, omega (arith, mapped-len f c.args.masks c.requires.masks_value l.i l.written l.invariant.2 (omega arith), short-few c.args.masks c.requires.masks_value (search rules)))
+    record {
+      self_value = mapped-again f c.args.masks c.requires.masks_value l.i l.written l.invariant.2;
+      len_lt_max_variables = omega (arith, mapped-len f c.args.masks c.requires.masks_value l.i l.written l.invariant.2 (omega arith), short-few c.args.masks c.requires.masks_value (search rules));
+    }
 
 pub loop-i-preserved : goal.loop-i-preserved
 loop-i-preserved c =

@@ -40,11 +40,14 @@ module _ (m d point entry : ℕ) (few : m ≤ max_listed) (k : IsCandidate m (ca
       (λ v i. omega (arith, vectors-below m (candidate_at d point entry) k v i, pow_mono few)))
 
 pub basis_of-basis-requires : goal.basis_of-basis-requires
-basis_of-basis-requires c =few-vectors c.args.m c.args.d c.args.point c.args.entry c.requires.m_le_max_listed.0 c.requires.m_le_max_listed.1
+basis_of-basis-requires c = few-vectors c.args.m c.args.d c.args.point c.args.entry c.requires.m_le_max_listed.0 c.requires.m_le_max_listed.1
 
 pub equations-masks-requires : goal.equations-masks-requires
 equations-masks-requires c =
-    (a-basis c.args.m c.args.d c.args.point c.args.entry c.requires.m_le_max_listed.0 c.requires.m_le_max_listed.1 c.basis_of-basis.result c.basis_of-basis.ensures, omega (arith, c.requires.m_le_max_listed.0))
+    record {
+      basis = a-basis c.args.m c.args.d c.args.point c.args.entry c.requires.m_le_max_listed.0 c.requires.m_le_max_listed.1 c.basis_of-basis.result c.basis_of-basis.ensures;
+      n_le_max_variables = omega (arith, c.requires.m_le_max_listed.0);
+    }
 
 pub factors_at-requires : goal.factors_at-requires
 factors_at-requires c =

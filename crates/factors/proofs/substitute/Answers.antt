@@ -10,16 +10,16 @@ pub loop-i-init : goal.loop-i-init
 loop-i-init c = (omega arith, refl)
 
 pub overflow_cast-place : goal.overflow_cast-place
-overflow_cast-place c =omega (arith, short-few c.args.equations c.requires (search rules))
+overflow_cast-place c = omega (arith, short-few c.args.equations c.requires (search rules))
 
 pub offset_bounds-values-i : goal.offset_bounds-values-i
-offset_bounds-values-i c =omega (arith, short-few c.args.equations c.requires (search rules))
+offset_bounds-values-i c = omega (arith, short-few c.args.equations c.requires (search rules))
 
 pub bounds-values-i : goal.bounds-values-i
-bounds-values-i c =omega (arith, short-few c.args.equations c.requires (search rules))
+bounds-values-i c = omega (arith, short-few c.args.equations c.requires (search rules))
 
 pub term-found-requires : goal.term-found-requires
-term-found-requires c =omega (arith, short-few c.args.equations c.requires (search rules))
+term-found-requires c = omega (arith, short-few c.args.equations c.requires (search rules))
 
 pub loop-i-preserved : goal.loop-i-preserved
 loop-i-preserved c =

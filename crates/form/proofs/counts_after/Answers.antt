@@ -3,10 +3,10 @@ use borrow.Author.Tests.{ne_eqb}
 use Rattle.form.proofs.counts_after.Goals as goal
 
 pub returns-in-80 : goal.returns-in-80
-returns-in-80 c = rw c.in-80.keys1
+returns-in-80 c = rw c.in-80.is
 
 pub returns-in-88 : goal.returns-in-88
-returns-in-88 c = rw c.in-80.keys2
+returns-in-88 c = rw c.in-88.is
 
 pub returns-in_default : goal.returns-in_default
 returns-in_default c = let r = c.in-80.rest in simp (ne_eqb _ _ r.0.1, ne_eqb _ _ r.1)

@@ -11,20 +11,21 @@ use Rattle.form.specs.Decoding.{factor_of}
 use Rattle.form.specs.Counting.{factors_before}
 use Rattle.form.proofs.Walking.{factor-read}
 use Rattle.form.proofs.factor_step.Goals as goal
+use Rattle.form.proofs.factor_step.Goals.{After-agrees_before, In-Whole}
 
 pub returns-then-counts-eq0 : goal.returns-then-counts-eq0
 returns-then-counts-eq0 c = rw (eq-eqb _ _ c.if-counts-eq0.true)
 
 pub returns-in_default : goal.returns-in_default
 returns-in_default c =
-    let e = c.enum_told-1.given.1 in
+    let e = c.in_default.is in
     e ∙ rw (ne_eqb _ 0 c.if-counts-eq0.false, sym c.body_step-found.ensures ∙ e)
 
 -- A body that is whole: its bytes are there.
-there : (c : After-known-told) → 3 ≤ length (drop (c.before.before.before.before.before.before.before.args.place + 1) c.before.before.before.before.before.before.before.args.bytes.now)
+there : (c : In-Whole) → 3 ≤ length (drop (c.args.place + 1) c.args.bytes.now)
 there c =
     let a = c.args in
-    let h = body-length a.body a.place (drop (a.place + 1) a.bytes.now) c.found-1.given.0.0 (sym c.body_step-found.ensures ∙ c.found-1.given.1) in
+    let h = body-length a.body a.place (drop (a.place + 1) a.bytes.now) c.in-Whole.length (sym c.body_step-found.ensures ∙ c.in-Whole.is) in
     omega (arith, h.1, c.requires.place_in_bounds.1)
 
 pub mask_at-mask-requires : goal.mask_at-mask-requires
@@ -50,7 +51,7 @@ fitting c =
 
 pub returns-then-not-fits : goal.returns-then-not-fits
 returns-then-not-fits c =
-    rw (ne_eqb _ 0 c.if-counts-eq0.false, sym c.body_step-found.ensures ∙ c.found-1.given.1, fitting (goal.at.returns-then-not-fits c).After-fits ∙ not-true _ c.if-not-fits.true)
+    rw (ne_eqb _ 0 c.if-counts-eq0.false, sym c.body_step-found.ensures ∙ c.in-Whole.is, fitting (goal.at.returns-then-not-fits c).After-fits ∙ not-true _ c.if-not-fits.true)
 
 pub agrees_before-requires : goal.agrees_before-requires
 agrees_before-requires c =
@@ -61,7 +62,7 @@ agrees_before-requires c =
     }
 
 -- The factors before it are compared with its mask, which is all that counts of it.
-agreeing : (c : After-agrees-before)
+agreeing : (c : After-agrees_before)
     → agrees
     (factors_before c.args.counts.factors c.args.bytes.now c.args.place)
     (factor_of (drop (c.args.place + 1) c.args.bytes.now))
@@ -72,8 +73,8 @@ agreeing c =
 
 pub returns-then-not-agrees_before : goal.returns-then-not-agrees_before
 returns-then-not-agrees_before c =
-    rw (ne_eqb _ 0 c.if-counts-eq0.false, sym c.body_step-found.ensures ∙ c.found-1.given.1, fitting (goal.at.returns-then-not-agrees_before c).After-fits ∙ not-false _ c.if-not-fits.false, agreeing (goal.at.returns-then-not-agrees_before c).After-agrees_before ∙ not-true _ c.if-not-agrees_before.true)
+    rw (ne_eqb _ 0 c.if-counts-eq0.false, sym c.body_step-found.ensures ∙ c.in-Whole.is, fitting (goal.at.returns-then-not-agrees_before c).After-fits ∙ not-false _ c.if-not-fits.false, agreeing (goal.at.returns-then-not-agrees_before c).After-agrees_before ∙ not-true _ c.if-not-agrees_before.true)
 
 pub returns : goal.returns
 returns c =
-    rw (ne_eqb _ 0 c.if-counts-eq0.false, sym c.body_step-found.ensures ∙ c.found-1.given.1, fitting (goal.at.returns c).After-fits ∙ not-false _ c.if-not-fits.false, agreeing (goal.at.returns c).After-agrees_before ∙ not-false _ c.if-not-agrees_before.false)
+    rw (ne_eqb _ 0 c.if-counts-eq0.false, sym c.body_step-found.ensures ∙ c.in-Whole.is, fitting (goal.at.returns c).After-fits ∙ not-false _ c.if-not-fits.false, agreeing (goal.at.returns c).After-agrees_before ∙ not-false _ c.if-not-agrees_before.false)

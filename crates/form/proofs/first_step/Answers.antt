@@ -16,6 +16,7 @@ use Rattle.records.specs.declared.RecordHead.TheVariants.{Known}
 use Rattle.records.specs.declared.Step.TheVariants.{Stop}
 use Rattle.form.specs.Walk.{first_form_kind}
 use Rattle.form.proofs.first_step.Goals as goal
+use Rattle.form.proofs.first_step.Goals.{In-Known}
 
 -- Every kind but the first of the enum stands wrong here.
 wrong : (k : Kind) (l : ℕ) (rest : List ℕ) → OneOf (1 ∷ 2 ∷ 3 ∷ 4 ∷ 5 ∷ []) (tag_of the_type k) → Stop (WrongKind 0) ≡ first_form_kind k l rest
@@ -27,23 +28,23 @@ wrong On l rest h = refl
 wrong Free l rest h = refl
 
 -- The kind of the first byte, once it is known.
-known : (c : After-known-told2) → head_of (get_or c.before.before.before.before.before.before.args.bytes.now 0 0) 0 ≡ Known c.before.kind-1.given.0.0 c.before.kind-1.given.0.1.0
-known c = sym c.head_of.ensures ∙ c.kind-1.given.1
+known : (c : In-Known) → head_of (get_or c.args.bytes.now 0 0) 0 ≡ Known c.in-Known.kind c.in-Known.body
+known c = sym c.head_of.ensures ∙ c.in-Known.is
 
 pub variables_step-requires : goal.variables_step-requires
 variables_step-requires c =
     record {
       bytes_nonzero = search rules;
-      body_value = (head-known (get_or c.args.bytes.now 0 0) 0 (known (goal.at.variables_step-requires c).In-Known)).1 ∙ ap body_length c.enum_told-1.given.1;
+      body_value = (head-known (get_or c.args.bytes.now 0 0) 0 (known (goal.at.variables_step-requires c).In-Known)).1 ∙ ap body_length c.in-Variables.is;
     }
 
 pub returns-in-Refused : goal.returns-in-Refused
-returns-in-Refused c = rw (sym c.head_of.ensures ∙ c.fault-1.given.1)
+returns-in-Refused c = rw (sym c.head_of.ensures ∙ c.in-Refused.is)
 
 pub returns-in-Variables : goal.returns-in-Variables
-returns-in-Variables c = c.variables_step.ensures ∙ sym (rw (known (goal.at.returns-in-Variables c).In-Known, c.enum_told-1.given.1))
+returns-in-Variables c = c.variables_step.ensures ∙ sym (rw (known (goal.at.returns-in-Variables c).In-Known, c.in-Variables.is))
 
 pub returns-in_default : goal.returns-in_default
 returns-in_default c =
-    let g = c.kind-1.given.0 in
+    let g = c.kind.given.0 in
     rw (known (goal.at.returns-in_default c).In-Known) (wrong g.0 g.1.0 (drop 1 c.args.bytes.now) c.in-Variables.keys2)

@@ -3,7 +3,7 @@ use Prim.Native.Nat.{◌+◌, ◌-◌}
 use mathlib.Core.Path.{◌≡◌, refl, sym, ◌∙◌}
 use native.Mathlib.Omega.{arith}
 use borrow.Author.Rules.{rules}
-use lib.ListN.{drop, get_or}
+use lib.ListN.{length, drop, get_or}
 use Rattle.records.specs.declared.Step.TheVariants.{Whole}
 use Rattle.records.proofs.Walking.{walk-over, walk_ends, walk-goes}
 use Rattle.form.specs.Walk.{record_step, passed, records_ending}
@@ -11,6 +11,7 @@ use Rattle.form.specs.Counting.{behind_by, factors_before}
 use Rattle.form.proofs.Walking.{Carried, carried, none-fit, record-whole}
 use Rattle.form.proofs.Alone.{alone-whole}
 use Rattle.form.proofs.walk_records.Goals as goal
+use Rattle.form.proofs.walk_records.Goals.{After-counts_after-counts}
 
 pub loop-place-init : goal.loop-place-init
 unfolding factors_before
@@ -20,11 +21,11 @@ loop-place-init c =
 pub returns-in-Stop : goal.returns-in-Stop
 returns-in-Stop c =
     let a = c.args in
-    sym (walk_ends (record_step a.alone a.n) passed (records_ending a.alone) a.bytes.now (behind_by a.bytes.now c.loop-place.counts c.loop-place.place) c.loop-place.place (omega arith) c.end-1.given.0.0 (sym c.awaited_step.ensures ∙ c.end-1.given.1))
+    sym (walk_ends (record_step a.alone a.n) passed (records_ending a.alone) a.bytes.now (behind_by a.bytes.now c.loop-place.counts c.loop-place.place) c.loop-place.place (omega arith) c.in-Stop.end (sym c.awaited_step.ensures ∙ c.in-Stop.is))
     ∙ c.loop-place.invariant.1
 
 -- A whole record at the loop's place: the step that says so, and the counts after it.
-module _ (c : After-counts-after) where
+module _ (c : After-counts_after-counts) where
   step :
       record_step
       c.args.alone
@@ -33,8 +34,8 @@ module _ (c : After-counts-after) where
       (get_or c.args.bytes.now c.loop-place.place 0)
       c.loop-place.place
       (drop (c.loop-place.place + 1) c.args.bytes.now)
-      ≡ Whole c.length-1.given.0.0
-  step = sym c.awaited_step.ensures ∙ c.length-1.given.1
+      ≡ Whole c.in-Whole.length
+  step = sym c.awaited_step.ensures ∙ c.in-Whole.is
 
   carry :
       Carried
@@ -43,11 +44,11 @@ module _ (c : After-counts-after) where
       (get_or c.args.bytes.now c.loop-place.place 0)
       c.loop-place.counts
       c.loop-place.place
-      c.length-1.given.0.0
+      c.in-Whole.length
   carry =
       let a = c.args in
-      carried a.n a.bytes.now c.loop-place.counts c.loop-place.place c.loop-place.invariant.0 (omega arith) (get_or a.bytes.now c.loop-place.place 0) c.length-1.given.0.0
-      (alone-whole a.alone a.n (behind_by a.bytes.now c.loop-place.counts c.loop-place.place) (get_or a.bytes.now c.loop-place.place 0) c.loop-place.place (drop (c.loop-place.place + 1) a.bytes.now) c.length-1.given.0.0 step)
+      carried a.n a.bytes.now c.loop-place.counts c.loop-place.place c.loop-place.invariant.0 (omega arith) (get_or a.bytes.now c.loop-place.place 0) c.in-Whole.length
+      (alone-whole a.alone a.n (behind_by a.bytes.now c.loop-place.counts c.loop-place.place) (get_or a.bytes.now c.loop-place.place 0) c.loop-place.place (drop (c.loop-place.place + 1) a.bytes.now) c.in-Whole.length step)
 
 pub overflow_add-place-in-Whole : goal.overflow_add-place-in-Whole
 overflow_add-place-in-Whole c = omega (arith, (carry c).counted.within)
@@ -58,7 +59,7 @@ loop-place-smaller c = omega (arith, (carry c).counted.within)
 pub loop-place-preserved : goal.loop-place-preserved
 loop-place-preserved c =
     let a = c.args in
-    let l = c.length-1.given.0.0 in
+    let l = c.in-Whole.length in
     let b = behind_by a.bytes.now c.loop-place.counts c.loop-place.place in
     let there = record-whole a.n b (get_or a.bytes.now c.loop-place.place 0) c.loop-place.place (drop (c.loop-place.place + 1) a.bytes.now) l (alone-whole a.alone a.n b (get_or a.bytes.now c.loop-place.place 0) c.loop-place.place (drop (c.loop-place.place + 1) a.bytes.now) l (step c)) in
     rw c.counts_after-counts.ensures (

@@ -23,7 +23,7 @@ bounds-bytes-place c = rest-there c.args.bytes.now c.loop-holds.place c.loop-hol
 pub returns-then-holds : goal.returns-then-holds
 returns-then-holds c =
     let a = c.args in
-    let on = product_there a.bytes.now c.loop-holds.place c.loop-holds.invariant.0 c.in-80.keys1 in
+    let on = product_there a.bytes.now c.loop-holds.place c.loop-holds.invariant.0 c.in-80.is in
     let v = value_from true (parts_from 0 (drop (c.loop-holds.place + 1) a.bytes.now)) a.point in
     sym (sym c.loop-holds.invariant.1 ∙ on.1 c.loop-holds.holds a.point ∙ ap (λ (t : Bool). t || v) c.if-holds.true)
 
@@ -38,7 +38,7 @@ loop-holds-smaller-in-80 c =
 pub loop-holds-preserved-in-80 : goal.loop-holds-preserved-in-80
 loop-holds-preserved-in-80 c =
     let a = c.args in
-    let on = product_there a.bytes.now c.loop-holds.place c.loop-holds.invariant.0 c.in-80.keys1 in
+    let on = product_there a.bytes.now c.loop-holds.place c.loop-holds.invariant.0 c.in-80.is in
     let v = value_from true (parts_from 0 (drop (c.loop-holds.place + 1) a.bytes.now)) a.point in
     (on.0, sym (on.1 c.loop-holds.holds a.point ∙ ap (λ (t : Bool). t || v) c.if-holds.false) ∙ c.loop-holds.invariant.1)
 
@@ -54,7 +54,7 @@ module _ (c : In-88) where
       (parts_from 0 (drop (c.loop-holds.place + 4) c.args.bytes.now))
       w)
   counts =
-      factor-at c.args.bytes.now c.loop-holds.place c.loop-holds.invariant.0 c.in-80.keys2
+      factor-at c.args.bytes.now c.loop-holds.place c.loop-holds.invariant.0 c.in-88.is
 
 pub still_holds-holds-requires : goal.still_holds-holds-requires
 still_holds-holds-requires c = (counts c).0

@@ -15,12 +15,12 @@ use Rattle.form.proofs.Accepting.{accepted-form, form-begins}
 use Rattle.form_calls.specs.Reading.{points_read}
 use Rattle.form_calls.proofs.Answering.{points-below, points-ways, form-found}
 use Rattle.form_calls.proofs.form_points.Goals as goal
-use Rattle.form_calls.proofs.form_points.Goals.{Else-fault-ne0}
+use Rattle.form_calls.proofs.form_points.Goals.{After-count_points-count, After-point_count-size, Else-fault-ne0}
 
 pub returns-then-fault-ne0 : goal.returns-then-fault-ne0
 returns-then-fault-ne0 c =
     let a = c.args in
-    (points-ways a.bytes.now a.room-1.now).faulty c.form_fault-fault.result (form-found a.bytes.now c.form_fault-fault.ensures) c.if-fault-ne0.true _ refl
+    (points-ways a.bytes.now a.room.now).faulty c.form_fault-fault.result (form-found a.bytes.now c.form_fault-fault.ensures) c.if-fault-ne0.true _ refl
 
 -- The bytes and the room, as the call was given them.
 abbrev given : Else-fault-ne0 → Start
@@ -46,18 +46,18 @@ pub count_points-count-requires : goal.count_points-count-requires
 count_points-count-requires c = accepted (goal.at.count_points-count-requires c).Else-fault-ne0
 
 -- The points below the bound that the code takes are all of them, and the count is theirs.
-points : (c : After-point-count)
-    → let bytes = (given c).args.bytes.now in
+points : (c : After-point_count-size)
+    → let bytes = (given c{-Else-fault-ne0-}).args.bytes.now in
     select (form_at (decode_form bytes)) c.point_count-size.result ≡ points_read bytes
-points c = points-below (given c).args.bytes.now c.point_count-size.ensures
+points c = points-below (given c{-Else-fault-ne0-}).args.bytes.now c.point_count-size.ensures
 
-counted : (c : After-count-points) → c.count_points-count.result ≡ length (points_read (given c.before.before.before).args.bytes.now)
-counted c = c.count_points-count.ensures ∙ ap length (points c)
+counted : (c : After-count_points-count) → c.count_points-count.result ≡ length (points_read (given c{-Else-fault-ne0-}).args.bytes.now)
+counted c = c.count_points-count.ensures ∙ ap length (points c{-After-point_count-size-})
 
 pub returns-then-room-count : goal.returns-then-room-count
 returns-then-room-count c =
     let a = (given (goal.at.returns-then-room-count c).Else-fault-ne0).args in
-    (points-ways a.bytes.now a.room-1.now).short (sound (goal.at.returns-then-room-count c).Else-fault-ne0) (omega (arith, counted (goal.at.returns-then-room-count c).After-count_points-count)) _ refl
+    (points-ways a.bytes.now a.room.now).short (sound (goal.at.returns-then-room-count c).Else-fault-ne0) (omega (arith, counted (goal.at.returns-then-room-count c).After-count_points-count)) _ refl
 
 pub write_points-requires : goal.write_points-requires
 write_points-requires c =
@@ -69,6 +69,6 @@ write_points-requires c =
 pub returns : goal.returns
 returns c =
     let a = (given (goal.at.returns c).Else-fault-ne0).args in
-    (points-ways a.bytes.now a.room-1.now).whole (sound (goal.at.returns c).Else-fault-ne0) (omega (arith, counted (goal.at.returns c).After-count_points-count, c.if-room-count.false)) _ _
+    (points-ways a.bytes.now a.room.now).whole (sound (goal.at.returns c).Else-fault-ne0) (omega (arith, counted (goal.at.returns c).After-count_points-count, c.if-room-count.false)) _ _
     (ap (λ (k : ℕ). record { refusal = 0; place = 0; variables = form_variables a.bytes.now; count = k }) (counted (goal.at.returns c).After-count_points-count))
-    (c.write_points.ensures ∙ ap (λ (l : List ℕ). front l a.room-1.now) (points (goal.at.returns c).After-point_count-size))
+    (c.write_points.ensures ∙ ap (λ (l : List ℕ). front l a.room.now) (points (goal.at.returns c).After-point_count-size))

@@ -19,7 +19,7 @@ use Rattle.form_calls.proofs.form_rewrite.Goals.{Else-fault-ne0}
 pub returns-then-fault-ne0 : goal.returns-then-fault-ne0
 returns-then-fault-ne0 c =
     let a = c.args in
-    (rewrite-ways a.bytes.now a.room-1.now).faulty c.form_fault-fault.result (form-found a.bytes.now c.form_fault-fault.ensures) c.if-fault-ne0.true _ refl
+    (rewrite-ways a.bytes.now a.room.now).faulty c.form_fault-fault.result (form-found a.bytes.now c.form_fault-fault.ensures) c.if-fault-ne0.true _ refl
 
 -- The bytes and the room, as the call was given them.
 abbrev given : Else-fault-ne0 → Start
@@ -37,11 +37,11 @@ same c =
 pub returns-then-room-bytes : goal.returns-then-room-bytes
 returns-then-room-bytes c =
     let a = (given (goal.at.returns-then-room-bytes c).Else-fault-ne0).args in
-    (rewrite-ways a.bytes.now a.room-1.now).short (sound (goal.at.returns-then-room-bytes c).Else-fault-ne0) (omega (arith, ap length (same (goal.at.returns-then-room-bytes c).Else-fault-ne0))) _ refl
+    (rewrite-ways a.bytes.now a.room.now).short (sound (goal.at.returns-then-room-bytes c).Else-fault-ne0) (omega (arith, ap length (same (goal.at.returns-then-room-bytes c).Else-fault-ne0))) _ refl
 
 pub returns : goal.returns
 returns c =
     let a = (given (goal.at.returns c).Else-fault-ne0).args in
-    (rewrite-ways a.bytes.now a.room-1.now).whole (sound (goal.at.returns c).Else-fault-ne0) (omega (arith, ap length (same (goal.at.returns c).Else-fault-ne0), c.if-room-bytes.false)) _ _
+    (rewrite-ways a.bytes.now a.room.now).whole (sound (goal.at.returns c).Else-fault-ne0) (omega (arith, ap length (same (goal.at.returns c).Else-fault-ne0), c.if-room-bytes.false)) _ _
     (ap (λ (l : List ℕ). record { refusal = 0; place = 0; length = length l }) (sym (same (goal.at.returns c).Else-fault-ne0)))
-    (c.copy.ensures.1 ∙ ap (λ (l : List ℕ). l ++ drop (length a.bytes.now) a.room-1.now) (take-length a.bytes.now) ∙ ap (λ (l : List ℕ). front l a.room-1.now) (sym (same (goal.at.returns c).Else-fault-ne0)))
+    (c.copy.ensures.1 ∙ ap (λ (l : List ℕ). l ++ drop (length a.bytes.now) a.room.now) (take-length a.bytes.now) ∙ ap (λ (l : List ℕ). front l a.room.now) (sym (same (goal.at.returns c).Else-fault-ne0)))

@@ -23,7 +23,7 @@ enough : (s : Start) → length (map (λ p. p) (select (form_at (decode_form s.a
 enough s = rw (map-id (select (form_at (decode_form s.args.bytes.now)) s.args.size)) s.requires.1
 
 -- The point is to be written, so there is room for it.
-fits : (c : Then-form_at) → c.before.before.before.loop-point.count < length c.before.before.before.before.before.before.args.room.now
+fits : (c : Then-form_at) → c.loop-point.count < length c.args.room.now
 fits c =
     let l = c.loop-point in
     let a = c.args in
@@ -31,7 +31,7 @@ fits c =
     omega (arith, l.invariant.1, written-room (λ p. p) t l.point a.size a.room.now (enough c{-Start-}) (omega arith) (sym c.form_at.ensures ∙ c.if-form_at.true))
 
 -- The room keeps its length.
-long : (c : At-loop-point) → length c.loop-point.room ≡ length c.before.before.before.args.room.now
+long : (c : At-loop-point) → length c.loop-point.room ≡ length c.args.room.now
 long c =
     let l = c.loop-point in
     ap length l.invariant.2 ∙ written-length (λ p. p) (form_at (decode_form c.args.bytes.now)) l.point c.args.size c.args.room.now (enough c{-Start-}) l.invariant.0

@@ -33,6 +33,7 @@ use denote.Steps.{only, owned, peeks, heard, nothing}
 use denote.Struct.Laws as LL
 use denote.Triple.Entry.{on_entry}
 use denote.Triple.Spec.{Meets, triple_of}
+use denote.Triple.Statement.{Contract, Triple}
 use denote.Triple.Call.{calls_at}
 use denote.Triple.Clauses.{ensured, lasts}
 use denote.Triple.Walked.{Stays, gave_slice, stay_none_slice, walk_of, Goes-gave_slice, Goes-none_slice, Walks, ends_at, walked, walk_Meets}

@@ -10,7 +10,7 @@ use Rattle.form.proofs.Accepting.{form-begins}
 use Rattle.index.specs.Answers.{list_tests, full_test, append_tests}
 use Rattle.index.proofs.Faulting.{found-form, found-product, early, product-wrong, product-right, list-wrong, list_right, full-found, full-none}
 use Rattle.index.proofs.append_fault.Goals as goal
-use Rattle.index.proofs.append_fault.Goals.{Else-fault-ne0, Else-fault_of_product-ne0, Else-number-ne0}
+use Rattle.index.proofs.append_fault.Goals.{After-product_fault-fault_of_product, Else-fault-ne0, Else-fault_of_product-ne0, Else-number-ne0}
 
 -- The tests after those of the form and of the product.
 abbrev others : Start → List Test
@@ -34,9 +34,9 @@ pub product_fault-fault_of_product-requires : goal.product_fault-fault_of_produc
 product_fault-fault_of_product-requires c = omega (arith, c.form_variables.ensures, (form-begins (given (goal.at.product_fault-fault_of_product-requires c).Else-fault-ne0).args.form.now (sound (goal.at.product_fault-fault_of_product-requires c).Else-fault-ne0).1).1)
 
 -- What was found of the product is said of the form's n.
-module _ (c : After-product-fault) where
-  product_found : c.product_fault-fault_of_product.result ≡ fault_of (product_tests (form_variables (given c).args.form.now) (given c).args.product.now)
-  product_found = c.product_fault-fault_of_product.ensures ∙ ap (λ (n : ℕ). fault_of (product_tests n (given c).args.product.now)) c.form_variables.ensures
+module _ (c : After-product_fault-fault_of_product) where
+  product_found : c.product_fault-fault_of_product.result ≡ fault_of (product_tests (form_variables (given c{-Else-fault-ne0-}).args.form.now) (given c{-Else-fault-ne0-}).args.product.now)
+  product_found = c.product_fault-fault_of_product.ensures ∙ ap (λ (n : ℕ). fault_of (product_tests n (given c{-Else-fault-ne0-}).args.product.now)) c.form_variables.ensures
 
 pub returns-then-fault_of_product-ne0 : goal.returns-then-fault_of_product-ne0
 returns-then-fault_of_product-ne0 c =
@@ -71,7 +71,7 @@ pub product_count-requires : goal.product_count-requires
 product_count-requires c = (sound (first (goal.at.product_count-requires c).Else-fault_of_product-ne0)).1
 
 -- Past the third test the list is right, and the last test decides.
-last : (c : Else-number-ne0) → fault_of (full_test (given (first c.before.before)).args.form.now ∷ [])
+last : (c : Else-number-ne0) → fault_of (full_test (given (first c{-Else-fault_of_product-ne0-})).args.form.now ∷ [])
     ≡ fault_of (append_tests (given (first c{-Else-fault_of_product-ne0-})).args.form.now (given (first c{-Else-fault_of_product-ne0-})).args.product.now (given (first c{-Else-fault_of_product-ne0-})).args.records (given (first c{-Else-fault_of_product-ne0-})).args.same)
 last c =
     let e = first c{-Else-fault_of_product-ne0-} in

@@ -16,12 +16,12 @@ use Rattle.index.specs.Answers.{index_refused, append_tests, appended_bytes}
 use Rattle.index.proofs.Forms.{front_length, appended-written, appended-length}
 use Rattle.index.proofs.Faulting.{AppendSound, append-sound, append-ways}
 use Rattle.index.proofs.append_form.Goals as goal
-use Rattle.index.proofs.append_form.Goals.{Else-fault-ne0, Else-too_short}
+use Rattle.index.proofs.append_form.Goals.{After-product_count-products, Else-fault-ne0, Else-too_short}
 
 pub returns-then-fault-ne0 : goal.returns-then-fault-ne0
 returns-then-fault-ne0 c =
     let a = c.args in
-    (append-ways a.form.now a.product.now a.records a.same a.room-1.now).faulty c.append_fault-fault.result c.append_fault-fault.ensures c.if-fault-ne0.true _ c.refused.ensures
+    (append-ways a.form.now a.product.now a.records a.same a.room.now).faulty c.append_fault-fault.result c.append_fault-fault.ensures c.if-fault-ne0.true _ c.refused.ensures
 
 -- Past the first test the form and the product are sound.
 abbrev given : Else-fault-ne0 → Start
@@ -48,18 +48,18 @@ long c = appended-length (given c).args.form.now (given c).args.product.now (for
 pub returns-then-too_short : goal.returns-then-too_short
 returns-then-too_short c =
     let a = (given (goal.at.returns-then-too_short c).Else-fault-ne0).args in
-    let less = ltb-true (length a.room-1.now) (length a.form.now + length a.product.now) (sym c.too_short.ensures ∙ c.if-too_short.true) in
-    (append-ways a.form.now a.product.now a.records a.same a.room-1.now).short (none (goal.at.returns-then-too_short c).Else-fault-ne0) (omega (arith, long (goal.at.returns-then-too_short c).Else-fault-ne0, less)) _
+    let less = ltb-true (length a.room.now) (length a.form.now + length a.product.now) (sym c.too_short.ensures ∙ c.if-too_short.true) in
+    (append-ways a.form.now a.product.now a.records a.same a.room.now).short (none (goal.at.returns-then-too_short c).Else-fault-ne0) (omega (arith, long (goal.at.returns-then-too_short c).Else-fault-ne0, less)) _
     (c.refused-then-too_short.ensures ∙ ap (λ (f : Fault). index_refused f.place f.number) c.fault_at.ensures)
 
 -- Past the second test the room has place for it.
 abbrev first : Else-too_short → Else-fault-ne0
 first c = c.before.before
 
-enough : (c : Else-too_short) → length (given (first c)).args.form.now + length (given (first c)).args.product.now ≤ length (given (first c)).args.room-1.now
+enough : (c : Else-too_short) → length (given (first c)).args.form.now + length (given (first c)).args.product.now ≤ length (given (first c)).args.room.now
 enough c =
     let a = (given (first c)).args in
-    ltb-false (length a.room-1.now) (length a.form.now + length a.product.now) (sym c.too_short.ensures ∙ c.if-too_short.false)
+    ltb-false (length a.room.now) (length a.form.now + length a.product.now) (sym c.too_short.ensures ∙ c.if-too_short.false)
 
 -- The form without its end record is kept.
 abbrev end : Else-too_short → ℕ
@@ -71,8 +71,8 @@ ended c = omega (arith, front_length (given (first c)).args.form.now (form-bytes
 kept : (c : Else-too_short) → length (take (end c) (given (first c)).args.form.now) ≡ end c
 kept c = length-take-le (end c) (given (first c)).args.form.now (omega arith)
 
-few : (c : After-product-count) → c.product_count-products.result < 64
-few c = omega (arith, c.product_count-products.ensures, (sound (first c)).few)
+few : (c : After-product_count-products) → c.product_count-products.result < 64
+few c = omega (arith, c.product_count-products.ensures, (sound (first c{-Else-too_short-})).few)
 
 pub overflow_sub-end : goal.overflow_sub-end
 overflow_sub-end c = omega (arith, ended c)
@@ -90,13 +90,13 @@ pub overflow_cast-products : goal.overflow_cast-products
 overflow_cast-products c = omega (arith, few (goal.at.overflow_cast-products c).Else-too_short)
 
 pub put_form-requires : goal.put_form-requires
-put_form-requires c =omega (arith, kept (goal.at.put_form-requires c).After-too_short, ended (goal.at.put_form-requires c).After-too_short, enough (goal.at.put_form-requires c).After-too_short)
+put_form-requires c = omega (arith, kept (goal.at.put_form-requires c).After-too_short, ended (goal.at.put_form-requires c).After-too_short, enough (goal.at.put_form-requires c).After-too_short)
 
 pub form_variables-requires : goal.form_variables-requires
 form_variables-requires c = (sound (first (goal.at.form_variables-requires c).After-too_short)).form-sound
 
 pub overflow_add-result : goal.overflow_add-result
-overflow_add-result c =omega (arith, enough (goal.at.overflow_add-result c).After-too_short)
+overflow_add-result c = omega (arith, enough (goal.at.overflow_add-result c).After-too_short)
 
 pub returns : goal.returns
 returns c =
@@ -106,6 +106,6 @@ returns c =
     let written = appended-written a.form.now (form-bytes f) s.form-sound a.product.now (product-bytes f) s.product-sound (end (goal.at.returns c).After-too_short) (ended (goal.at.returns c).After-too_short) in
     let count : c.product_count-products.result + 1 ≡ length (form_products a.form.now ++ (decode_product a.product.now ∷ []))
     = ap (λ (m : ℕ). m + 1) c.product_count-products.ensures ∙ sym (length-append (form_products a.form.now) (decode_product a.product.now ∷ [])) in
-    (append-ways a.form.now a.product.now a.records a.same a.room-1.now).whole (none f) (omega (arith, long f, enough (goal.at.returns c).After-too_short)) _ _
+    (append-ways a.form.now a.product.now a.records a.same a.room.now).whole (none f) (omega (arith, long f, enough (goal.at.returns c).After-too_short)) _ _
     (rw (c.form_variables.ensures, count, long f) refl)
-    (c.put_form.ensures ∙ ap (λ (m : ℕ). front ((take (end (goal.at.returns c).After-too_short) a.form.now ++ a.product.now) ++ encode_end (m + 1)) a.room-1.now) c.product_count-products.ensures ∙ ap (λ (l : List ℕ). front l a.room-1.now) (sym written))
+    (c.put_form.ensures ∙ ap (λ (m : ℕ). front ((take (end (goal.at.returns c).After-too_short) a.form.now ++ a.product.now) ++ encode_end (m + 1)) a.room.now) c.product_count-products.ensures ∙ ap (λ (l : List ℕ). front l a.room.now) (sym written))

@@ -6,10 +6,10 @@ use Rattle.index.proofs.bound.Goals as goal
 
 pub returns-then-fault-ne0 : goal.returns-then-fault-ne0
 unfolding bound_of
-returns-then-fault-ne0 c =rw (ne_eqb _ 0 (found_number c.args.form.now c.form_fault-fault.ensures c.if-fault-ne0.true))
+returns-then-fault-ne0 c = rw (ne_eqb _ 0 (found_number c.args.form.now c.form_fault-fault.ensures c.if-fault-ne0.true))
 
 pub form_size-points-requires : goal.form_size-points-requires
-form_size-points-requires c =(found-form c.args.form.now c.form_fault-fault.ensures c.if-fault-ne0.false).1
+form_size-points-requires c = (found-form c.args.form.now c.form_fault-fault.ensures c.if-fault-ne0.false).1
 
 pub returns-then-records-points : goal.returns-then-records-points
 unfolding bound_of

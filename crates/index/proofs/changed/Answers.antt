@@ -13,26 +13,26 @@ pub overflow_cast-point : goal.overflow_cast-point
 overflow_cast-point c = omega (arith, c.requires.point)
 
 pub product_seen-seen-requires : goal.product_seen-seen-requires
-product_seen-seen-requires c = c.requires.product c.in-1.keys1
+product_seen-seen-requires c = c.requires.product c.in-1.is
 
 pub overflow_sub-answer : goal.overflow_sub-answer
-overflow_sub-answer c =(c.requires.some c.in-1.keys1).0
+overflow_sub-answer c = (c.requires.some c.in-1.is).0
 
 pub overflow_cast-answer : goal.overflow_cast-answer
-overflow_cast-answer c =omega (arith, (c.requires.some c.in-1.keys1).1)
+overflow_cast-answer c = omega (arith, (c.requires.some c.in-1.is).1)
 
 pub add_holder-requires : goal.add_holder-requires
-add_holder-requires c =c.requires.room c.in-1.keys1
+add_holder-requires c = c.requires.room c.in-1.is
 
 -- ---- the last product is taken away
 pub overflow_sub-answer-in-2 : goal.overflow_sub-answer-in-2
-overflow_sub-answer-in-2 c =c.requires.end c.in-1.keys2
+overflow_sub-answer-in-2 c = c.requires.end c.in-2.is
 
 pub overflow_cast-point-in-2 : goal.overflow_cast-point-in-2
 overflow_cast-point-in-2 c = omega (arith, c.requires.point)
 
 pub product_seen-seen-requires-in-2 : goal.product_seen-seen-requires-in-2
-product_seen-seen-requires-in-2 c =c.requires.last c.in-1.keys2
+product_seen-seen-requires-in-2 c = c.requires.last c.in-2.is
 
 -- ---- the index is built
 pub overflow_cast-point-in_default : goal.overflow_cast-point-in_default
@@ -47,14 +47,14 @@ pub returns-in-1 : goal.returns-in-1
 unfolding changed_of product_seen
 returns-in-1 c =
     let a = c.args in
-    rw c.in-1.keys1
+    rw c.in-1.is
     (c.add_holder.ensures ∙ ap (λ (s : ProductSeen). cond s.holds (add_holder (a.answer.products - 1) a.old) a.old) c.product_seen-seen.ensures)
 
 pub returns-in-2 : goal.returns-in-2
 unfolding changed_of product_seen
 returns-in-2 c =
     let a = c.args in
-    rw c.in-1.keys2 (c.drop_holder.ensures ∙ ap (λ (s : ProductSeen). cond s.holds (drop_holder a.old) a.old) c.product_seen-seen-in-2.ensures)
+    rw c.in-2.is (c.drop_holder.ensures ∙ ap (λ (s : ProductSeen). cond s.holds (drop_holder a.old) a.old) c.product_seen-seen-in-2.ensures)
 
 pub returns-in_default : goal.returns-in_default
 unfolding changed_of

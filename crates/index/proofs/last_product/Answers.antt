@@ -11,11 +11,12 @@ use Rattle.index.specs.Changes.{factors_of_product, WholeProduct, product_seen}
 use Rattle.index.specs.Answers.{last_place}
 use Rattle.index.proofs.Reading.{Begun, first-begun, next_product, product-there, product-byte, lasts_length, lasts-next, lasts-one}
 use Rattle.index.proofs.last_product.Goals as goal
+use Rattle.index.proofs.last_product.Goals.{After-product_seen-seen}
 
 -- One product more is left than are still to be passed, and past these the last one begins.
 pub loop-left-init : goal.loop-left-init
 unfolding last_place
-loop-left-init c =(first-begun c.args.form.now c.requires.form, omega (arith, c.requires.products_value.0, c.requires.products_value.1), refl)
+loop-left-init c = (first-begun c.args.form.now c.requires.form, omega (arith, c.requires.products_value.0, c.requires.products_value.1), refl)
 
 -- As long as products are to be passed, one begins at the place.
 module _ (form : List ℕ) (place left : ℕ) (b : Begun (drop place form)) (many : left + 1 ≡ length (parts_from 0 (drop place form)).products) where
@@ -32,9 +33,9 @@ module _ (form : List ℕ) (place left : ℕ) (b : Begun (drop place form)) (man
       omega (arith, ap lasts_length there.2, lasts-next p ps some)
 
 pub product_seen-seen-requires : goal.product_seen-seen-requires
-product_seen-seen-requires c =(there c.args.form.now c.loop-left.place c.loop-left.left c.loop-left.invariant.0 c.loop-left.invariant.1).0
+product_seen-seen-requires c = (there c.args.form.now c.loop-left.place c.loop-left.left c.loop-left.invariant.0 c.loop-left.invariant.1).0
 
-next : (c : After-product-seen) → c.product_seen-seen.result.next ≡ next_product c.before.before.before.before.args.form.now c.before.before.loop-left.place
+next : (c : After-product_seen-seen) → c.product_seen-seen.result.next ≡ next_product c.args.form.now c.loop-left.place
 unfolding product_seen
 next c = ap (λ (s : ProductSeen). s.next) c.product_seen-seen.ensures
 

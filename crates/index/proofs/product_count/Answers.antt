@@ -7,9 +7,10 @@ use Rattle.records.specs.Kinds.{word_record_length}
 use Rattle.form_calls.proofs.Answering.{slice-bytes}
 use Rattle.index.proofs.Forms.{front_length, count-read}
 use Rattle.index.proofs.product_count.Goals as goal
+use Rattle.index.proofs.product_count.Goals.{After-shared_slice_known-1}
 
 -- The form is long enough for its end record.
-long : (c : After-shared-slice-known) → 3 ≤ length c.before.args.form.now
+long : (c : After-shared_slice_known-1) → 3 ≤ length c.args.form.now
 long c =
     let s = c.args.form.now in
     omega (arith, front_length s (slice-bytes s (λ i. omega (arith, c.shared_slice_known-1.given i))) c.requires)

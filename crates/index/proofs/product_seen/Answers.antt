@@ -12,6 +12,7 @@ use Rattle.form.specs.Counting.{factor_length}
 use Rattle.index.specs.Changes.{factors_of_product, product_seen}
 use Rattle.index.proofs.Reading.{factor-there, factors-over, held_next, held_none}
 use Rattle.index.proofs.product_seen.Goals as goal
+use Rattle.index.proofs.product_seen.Goals.{After-still_holds-holds}
 
 -- The factors that are left are whole; with what is known of those before them they make the product, and they end where it does.
 pub loop-holds-init : goal.loop-holds-init
@@ -22,7 +23,7 @@ still_holds-holds-requires c =
     (factor-there c.args.bytes.now c.loop-holds.next c.loop-holds.invariant.0 (sym c.factor_begins.ensures ∙ c.loop-holds-test.true)).0
 
 -- A factor stands at the loop's place.
-module _ (c : After-still-holds) where
+module _ (c : After-still_holds-holds) where
   there :
       (c.loop-holds.next + factor_length ≤ length c.args.bytes.now)
       × WholeFactors (drop (c.loop-holds.next + factor_length) c.args.bytes.now)

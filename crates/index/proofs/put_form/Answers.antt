@@ -14,7 +14,7 @@ write_word-next-requires c = record { fits = omega (arith, c.requires) }
 
 pub write_word-end-requires : goal.write_word-end-requires
 write_word-end-requires c =
-    record { fits = omega (arith, c.requires, c.write_word-next.ensures.place, ap length c.write_word-next.ensures.bytes, length-sets c.args.room-1.now 0 c.args.kept.now) }
+    record { fits = omega (arith, c.requires, c.write_word-next.ensures.place, ap length c.write_word-next.ensures.bytes, length-sets c.args.room.now 0 c.args.kept.now) }
 
 pub put_end-requires : goal.put_end-requires
 put_end-requires c =
@@ -26,12 +26,12 @@ put_end-requires c =
       ap length c.write_word-end.ensures.bytes,
       length-sets c.write_word-next.new.0 c.write_word-next.result c.args.added.now,
       ap length c.write_word-next.ensures.bytes,
-      length-sets c.args.room-1.now 0 c.args.kept.now,
+      length-sets c.args.room.now 0 c.args.kept.now,
     )
 
 pub returns : goal.returns
 returns c =
-    let room = c.args.room-1.now in
+    let room = c.args.room.now in
     let kept = c.args.kept.now in
     let added = c.args.added.now in
     let end = encode_end c.args.products in

@@ -12,8 +12,8 @@ point_count-points-requires c = c.requires c.if-answer-ne0.false
 
 pub returns-then-records-points : goal.returns-then-records-points
 unfolding reach_of
-returns-then-records-points c =rw (eq-eqb _ 0 c.if-answer-ne0.false, ← c.point_count-points.ensures, lt-ltb _ _ c.if-records-points.true)
+returns-then-records-points c = rw (eq-eqb _ 0 c.if-answer-ne0.false, ← c.point_count-points.ensures, lt-ltb _ _ c.if-records-points.true)
 
 pub returns : goal.returns
 unfolding reach_of
-returns c =rw (eq-eqb _ 0 c.if-answer-ne0.false, ← c.point_count-points.ensures, le-ltb _ _ c.if-records-points.false)
+returns c = rw (eq-eqb _ 0 c.if-answer-ne0.false, ← c.point_count-points.ensures, le-ltb _ _ c.if-records-points.false)

@@ -14,6 +14,7 @@ use Rattle.index.specs.Changes.{factors_of_product, WholeProduct, add_holder, ap
 use Rattle.index.proofs.Records.{record_from, record-fold, record-none}
 use Rattle.index.proofs.Reading.{Begun, first-begun, next_product, product-there, products-over, begun-there}
 use Rattle.index.proofs.record_at.Goals as goal
+use Rattle.index.proofs.record_at.Goals.{After-add_holder-found}
 
 -- No factor is left of the product before the place; each product before it was counted at most once; and with the products from there on the record so
 -- far makes that of the form.
@@ -40,7 +41,7 @@ pub overflow_add-number : goal.overflow_add-number
 overflow_add-number c = let h = c.loop-place in omega (arith, h.invariant.2)
 
 -- A product begins at the loop's place, and the next one where its factors end.
-module _ (c : After-add-holder) where
+module _ (c : After-add_holder-found) where
   abbrev bytes : List ℕ
   bytes = c.args.bytes.now
 

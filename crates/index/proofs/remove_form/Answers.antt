@@ -17,12 +17,12 @@ use Rattle.index.proofs.Records.{last_apart}
 use Rattle.index.proofs.Forms.{removed-written, removed-length, last_within}
 use Rattle.index.proofs.Faulting.{RemoveSound, remove-sound, remove-ways}
 use Rattle.index.proofs.remove_form.Goals as goal
-use Rattle.index.proofs.remove_form.Goals.{Else-fault-ne0}
+use Rattle.index.proofs.remove_form.Goals.{After-last_product-last, Else-fault-ne0}
 
 pub returns-then-fault-ne0 : goal.returns-then-fault-ne0
 returns-then-fault-ne0 c =
     let a = c.args in
-    (remove-ways a.form.now a.records a.same a.room-1.now).faulty c.remove_fault-fault.result c.remove_fault-fault.ensures c.if-fault-ne0.true _ c.refused.ensures
+    (remove-ways a.form.now a.records a.same a.room.now).faulty c.remove_fault-fault.result c.remove_fault-fault.ensures c.if-fault-ne0.true _ c.refused.ensures
 
 -- Past the first test the form is sound and has a product.
 abbrev given : Else-fault-ne0 → Start
@@ -44,17 +44,17 @@ pub last_product-last-requires : goal.last_product-last-requires
 last_product-last-requires c = let s = sound (goal.at.last_product-last-requires c).Else-fault-ne0 in (s.form-sound, (c.product_count-products.ensures, omega (arith, c.product_count-products.ensures, s.some)))
 
 -- Where the last product begins, and that the end record of the new form fits there.
-module _ (c : After-last-product) where
+module _ (c : After-last_product-last) where
   abbrev first : Else-fault-ne0
-  first = c
+  first = c{-Else-fault-ne0-}
 
-  place : c.last_product-last.result ≡ last_place (given c).args.form.now
+  place : c.last_product-last.result ≡ last_place (given c{-Else-fault-ne0-}).args.form.now
   place = c.last_product-last.ensures
 
-  within : c.last_product-last.result + word_record_length ≤ length (given c).args.form.now
+  within : c.last_product-last.result + word_record_length ≤ length (given c{-Else-fault-ne0-}).args.form.now
   within = omega (arith, place, last_within (given first).args.form.now (form-bytes first) (sound first).form-sound (sound first).some)
 
-  kept : length (take c.last_product-last.result (given c).args.form.now) ≡ c.last_product-last.result
+  kept : length (take c.last_product-last.result (given c{-Else-fault-ne0-}).args.form.now) ≡ c.last_product-last.result
   kept = length-take-le c.last_product-last.result (given first).args.form.now (omega (arith, within))
 
   -- There are as many products as were counted, at least one and at most those of a form.
@@ -70,7 +70,7 @@ overflow_add-last c = omega (arith, within c)
 pub returns-then-room-last : goal.returns-then-room-last
 returns-then-room-last c =
     let a = (given (first (goal.at.returns-then-room-last c).After-last_product-last)).args in
-    (remove-ways a.form.now a.records a.same a.room-1.now).short (none (first (goal.at.returns-then-room-last c).After-last_product-last)) (omega (arith, removed-length a.form.now, place (goal.at.returns-then-room-last c).After-last_product-last, c.if-room-last.true)) _
+    (remove-ways a.form.now a.records a.same a.room.now).short (none (first (goal.at.returns-then-room-last c).After-last_product-last)) (omega (arith, removed-length a.form.now, place (goal.at.returns-then-room-last c).After-last_product-last, c.if-room-last.true)) _
     (c.refused-then-room-last.ensures ∙ ap (λ (f : Fault). index_refused f.place f.number) c.fault_at.ensures)
 
 pub slice_bounds-put_form-end : goal.slice_bounds-put_form-end
@@ -83,7 +83,7 @@ pub overflow_cast-products : goal.overflow_cast-products
 overflow_cast-products c = omega (arith, most (goal.at.overflow_cast-products c).Else-fault-ne0)
 
 pub put_form-requires : goal.put_form-requires
-put_form-requires c =omega (arith, kept (goal.at.put_form-requires c).Else-fault-ne0, c.if-room-last.false)
+put_form-requires c = omega (arith, kept (goal.at.put_form-requires c).Else-fault-ne0, c.if-room-last.false)
 
 pub form_variables-requires : goal.form_variables-requires
 form_variables-requires c = (sound (first (goal.at.form_variables-requires c).Else-fault-ne0)).form-sound
@@ -103,7 +103,7 @@ returns c =
     let counted = c.product_count-products.ensures in
     let count : c.product_count-products.result - 1 ≡ length (without_last ps) = omega (arith, counted, ap length (last_apart [] ps s.some), length-append (without_last ps) (last_of [] ps ∷ [])) in
     let long : c.last_product-last.result + word_record_length ≡ length (removed_bytes a.form.now) = omega (arith, place (goal.at.returns c).Else-fault-ne0, removed-length a.form.now) in
-    (remove-ways a.form.now a.records a.same a.room-1.now).whole (none f) (omega (arith, long, c.if-room-last.false)) _ _
+    (remove-ways a.form.now a.records a.same a.room.now).whole (none f) (omega (arith, long, c.if-room-last.false)) _ _
     (rw (c.form_variables.ensures, count, long) refl)
-    (c.put_form.ensures ∙ ap₂ (λ (k m : ℕ). front ((take k a.form.now ++ []) ++ encode_end (m - 1)) a.room-1.now) (place (goal.at.returns c).Else-fault-ne0) counted
-    ∙ ap (λ (x : List ℕ). front x a.room-1.now) (sym (removed-written a.form.now (form-bytes f) s.form-sound s.some)))
+    (c.put_form.ensures ∙ ap₂ (λ (k m : ℕ). front ((take k a.form.now ++ []) ++ encode_end (m - 1)) a.room.now) (place (goal.at.returns c).Else-fault-ne0) counted
+    ∙ ap (λ (x : List ℕ). front x a.room.now) (sym (removed-written a.form.now (form-bytes f) s.form-sound s.some)))

@@ -12,10 +12,10 @@ use Rattle.lines.proofs.degree_line.Goals as goal
 use Rattle.lines.proofs.degree_line.Goals.{Else-not-simple, Then-not-simple}
 
 -- The mark is not asked for, or it is.
-plain : (c : Then-not-simple) → c.before.before.args.simple ≡ false
+plain : (c : Then-not-simple) → c.args.simple ≡ false
 plain c = not-true _ c.if-not-simple.true
 
-marked : (c : Else-not-simple) → c.before.before.args.simple ≡ true
+marked : (c : Else-not-simple) → c.args.simple ≡ true
 marked c = not-false _ c.if-not-simple.false
 
 pub number_line-requires : goal.number_line-requires
@@ -27,7 +27,7 @@ returns-then-not-simple c =
     wrote-same (degree-plain c.args.simple c.args.k (plain (goal.at.returns-then-not-simple c).After-number_line-arg-1)) c.number_line.ensures
 
 -- There is room for the degree and its mark.
-both : (c : Else-not-simple) → let s = c.before.before in HasRoom s.args.room-1.now s.args.at (labelled degree_word s.args.k ++ (simple_word ++ line_end))
+both : (c : Else-not-simple) →HasRoom c.args.room.now c.args.at (labelled degree_word c.args.k ++ (simple_word ++ line_end))
 both c =room-same (sym (degree-marked c.args.simple c.args.k (marked c))) c.requires
 
 pub write_labelled-end-requires : goal.write_labelled-end-requires

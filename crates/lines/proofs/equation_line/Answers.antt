@@ -5,6 +5,7 @@ use Rattle.text.proofs.Writing.{room-first, room-second, room-third, room-then, 
 use Rattle.lines.specs.Words.{equals_word, plus_word, line_end}
 use Rattle.lines.specs.Lines.{variables_text, equation_line}
 use Rattle.lines.proofs.equation_line.Goals as goal
+use Rattle.lines.proofs.equation_line.Goals.{After-write_labelled-left}
 
 pub write_labelled-left-requires : goal.write_labelled-left-requires
 unfolding equation_line
@@ -15,14 +16,14 @@ unfolding equation_line
 write_word-right-requires c = search room-second
 
 -- The stations: the label, from the equals sign, and the equals sign, from the variables.
-abbrev label : After-write-word → After-write-labelled
+abbrev label : After-write_word-right → After-write_labelled-left
 label c = c.before.before.before.before.before
 
-abbrev equals : After-variables-text → After-write-word
+abbrev equals : After-variables_text-end → After-write_word-right
 equals c = c.before.before.before.before.before
 
 -- The room behind the label.
-behind : (c : After-write-labelled) → let a = c.before.before.before.before.args in
+behind : (c : After-write_labelled-left) → let a = c.args in
     HasRoom c.write_labelled-left.new.0 c.write_labelled-left.result (equals_word ++ (variables_text plus_word a.n a.mask ++ line_end))
 unfolding equation_line
 behind c =room-then (equals_word ++ (variables_text plus_word c.args.n c.args.mask ++ line_end)) c.requires.has_room c.write_labelled-left.ensures

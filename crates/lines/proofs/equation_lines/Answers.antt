@@ -18,7 +18,10 @@ equation_line-next-requires c =
     let l = c.loop-i in
     let s = start (goal.at.equation_line-next-requires c).At-loop-i in
     let a = s.args in
-    (s.pre.0, room-piece (equation_at a.n 1 a.masks.now) l.i (length a.masks.now) (equation-pieces a.n 1 a.masks.now) s.pre.1 (omega arith) l.invariant.1)
+    record {
+      n_le_max_variables = s.pre.0;
+      has_room = room-piece (equation_at a.n 1 a.masks.now) l.i (length a.masks.now) (equation-pieces a.n 1 a.masks.now) s.pre.1 (omega arith) l.invariant.1;
+    }
 
 pub loop-i-preserved : goal.loop-i-preserved
 loop-i-preserved c =

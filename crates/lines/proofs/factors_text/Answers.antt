@@ -18,7 +18,10 @@ factor_text-next-requires c =
     let l = c.loop-i in
     let s = start (goal.at.factor_text-next-requires c).At-loop-i in
     let a = s.args in
-    (s.pre.0, room-piece (factor_at a.n a.constants.now a.masks.now) l.i (length a.masks.now) (factors-pieces a.n a.constants.now a.masks.now s.pre.1.0) s.pre.1.1 (omega arith) l.invariant.1)
+    record {
+      n_le_max_variables = s.pre.0;
+      has_room = room-piece (factor_at a.n a.constants.now a.masks.now) l.i (length a.masks.now) (factors-pieces a.n a.constants.now a.masks.now s.pre.1.0) s.pre.1.1 (omega arith) l.invariant.1;
+    }
 
 pub loop-i-preserved : goal.loop-i-preserved
 loop-i-preserved c =

@@ -14,10 +14,10 @@ use Rattle.lines.proofs.fault_line.Goals as goal
 use Rattle.lines.proofs.fault_line.Goals.{Else-not-has_place, Then-not-has_place}
 
 -- The number has no place, or it has one.
-alone : (c : Then-not-has_place) → has_place c.before.before.before.args.number ≡ false
+alone : (c : Then-not-has_place) → has_place c.args.number ≡ false
 alone c = sym c.has_place.ensures ∙ not-true _ c.if-not-has_place.true
 
-placed : (c : Else-not-has_place) → has_place c.before.before.before.args.number ≡ true
+placed : (c : Else-not-has_place) → has_place c.args.number ≡ true
 placed c = sym c.has_place.ensures ∙ not-false _ c.if-not-has_place.false
 
 pub number_line-requires : goal.number_line-requires
@@ -30,7 +30,7 @@ returns-then-not-has_place c =
 
 -- There is room for the refusal and its place.
 both : (c : Else-not-has_place)
-    →HasRoom c.args.room-1.now c.args.at (labelled refused_word c.args.number ++ number_line at_word c.args.place)
+    →HasRoom c.args.room.now c.args.at (labelled refused_word c.args.number ++ number_line at_word c.args.place)
 both c =room-same (sym (fault-placed c.args.number c.args.place (placed c))) c.requires
 
 pub write_labelled-rest-requires : goal.write_labelled-rest-requires

@@ -10,11 +10,12 @@ use Rattle.text.specs.Pieces.{names}
 use Rattle.text.proofs.Writing.{room-same, wrote-same}
 use Rattle.lines.specs.Lines.{variables_text}
 use Rattle.lines.proofs.variables_text.Goals as goal
+use Rattle.lines.proofs.variables_text.Goals.{After-variables_of-variables}
 
 -- The variables of the mask are found.
-module _ (c : After-variables-of) where
+module _ (c : After-variables_of-variables) where
   abbrev start : Start
-  start = c
+  start = c{-Start-}
 
   abbrev variables : List ℕ
   variables = variables_at start.args.n (places_at start.args.n (λ k. bit k start.args.mask))
@@ -23,10 +24,10 @@ module _ (c : After-variables-of) where
   found = c.variables_of-variables.ensures
 
 pub slice_bounds-write_names-end : goal.slice_bounds-write_names-end
-slice_bounds-write_names-end c =short-fits c.variables_of-variables.result (variables (goal.at.slice_bounds-write_names-end c).After-shared_slice_known-1) (found (goal.at.slice_bounds-write_names-end c).After-shared_slice_known-1)
+slice_bounds-write_names-end c = short-fits c.variables_of-variables.result (variables (goal.at.slice_bounds-write_names-end c).After-shared_slice_known-1) (found (goal.at.slice_bounds-write_names-end c).After-shared_slice_known-1)
 
 -- Where they were found, from the station that writes their names.
-abbrev written : After-write-names-arg2 → After-variables-of
+abbrev written : After-write_names-arg-2-1 → After-variables_of-variables
 written c = c.before.before.before.before
 
 pub write_names-requires : goal.write_names-requires

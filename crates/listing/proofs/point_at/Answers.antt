@@ -12,7 +12,7 @@ use Rattle.listing.proofs.point_at.Goals as goal
 use Rattle.listing.proofs.point_at.Goals.{Else-left-count}
 
 pub overflow_sub-last : goal.overflow_sub-last
-overflow_sub-last c =omega (arith, shifted_one c.args.n 64 (omega (arith, c.requires.n_le_max_listed)), pow_pos c.args.n)
+overflow_sub-last c = omega (arith, shifted_one c.args.n 64 (omega (arith, c.requires.n_le_max_listed)), pow_pos c.args.n)
 
 pub loop-point-init : goal.loop-point-init
 loop-point-init c = let a = c.args in (pow_pos a.n, ap (drop a.skip) (point-first a.n a.degree))
@@ -25,12 +25,12 @@ pub returns-then-left-count : goal.returns-then-left-count
 returns-then-left-count c = let l = c.loop-point in record { below = l.invariant.0; same = l.invariant.1 }
 
 -- There is a point after this one.
-onward : (c : Else-left-count) → let l = c.before.before.before.before in l.loop-point.point + 1 < 2 ^ l.before.before.args.n
+onward : (c : Else-left-count) →c.loop-point.point + 1 < 2 ^ c.args.n
 onward c =
     omega (arith, c.loop-point-test.true, shifted_one c.args.n 64 (omega (arith, c.requires.n_le_max_listed)))
 
 pub overflow_add-point : goal.overflow_add-point
-overflow_add-point c =omega (arith, onward c, pow_mono c.requires.n_le_max_listed)
+overflow_add-point c = omega (arith, onward c, pow_mono c.requires.n_le_max_listed)
 
 pub loop-point-smaller : goal.loop-point-smaller
 loop-point-smaller c = omega (arith, onward c)

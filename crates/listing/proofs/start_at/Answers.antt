@@ -10,7 +10,7 @@ unfolding candidates
 loop-degree-init c = (omega arith, refl)
 
 pub degree_count-count-requires : goal.degree_count-count-requires
-degree_count-count-requires c = (c.requires, omega (arith, c.loop-degree.invariant.0, c.requires))
+degree_count-count-requires c = record { n_le_max_listed = c.requires; d_le_max_listed = omega (arith, c.loop-degree.invariant.0, c.requires) }
 
 pub returns-then-skip-count : goal.returns-then-skip-count
 returns-then-skip-count c = let l = c.loop-degree in record { short = l.invariant.0; same = l.invariant.1 }

@@ -7,7 +7,7 @@ use Rattle.pla.proofs.Marking.{mark-length}
 use Rattle.pla.proofs.mark_count.Goals as goal
 use Rattle.pla.proofs.mark_count.Goals.{Joined-on}
 
-tested : (c : Joined-on) → c.if-on.if-free ≡ c.before.args.on || c.before.args.free
+tested : (c : Joined-on) → c.if-on.if-free ≡ c.args.on || c.args.free
 tested c = either (λ w. w.true) (λ w. w.left) c.if-on.branch
 
 pub returns-then-free : goal.returns-then-free

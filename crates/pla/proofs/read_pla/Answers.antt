@@ -8,10 +8,10 @@ use Rattle.table.specs.Refusal.{first_fault}
 use Rattle.pla.specs.Answer.{end_tests}
 use Rattle.pla.proofs.Answering.{few-inputs, few-marks, line_refused, end_refused, room-refused, text-accepted}
 use Rattle.pla.proofs.read_pla.Goals as goal
-use Rattle.pla.proofs.read_pla.Goals.{Else-fault-ne0}
+use Rattle.pla.proofs.read_pla.Goals.{After-count_marks-count, After-read_lines-reading, After-text_fault-fault, Else-fault-ne0}
 
 -- The arguments, as the reading of the lines leaves them; there are never more inputs than variables of a table.
-module _ (c : After-read-lines) where
+module _ (c : After-read_lines-reading) where
   abbrev text : List ℕ
   text = c.args.text.now
 
@@ -19,9 +19,9 @@ module _ (c : After-read-lines) where
   output = c.args.output
 
   abbrev room : List ℕ
-  room = c.args.room-1.now
+  room = c.args.room.now
 
-  few : c.read_lines-reading.result.head-1.variables ≤ max_variables
+  few : c.read_lines-reading.result.head.variables ≤ max_variables
   few = few-inputs text output c.read_lines-reading.result c.read_lines-reading.ensures
 
 pub returns-then-reading-ne0 : goal.returns-then-reading-ne0
@@ -29,9 +29,9 @@ returns-then-reading-ne0 c =
     line_refused (text (goal.at.returns-then-reading-ne0 c).After-read_lines-reading) (output (goal.at.returns-then-reading-ne0 c).After-read_lines-reading) c.read_lines-reading.result c.read_lines-reading.ensures (room (goal.at.returns-then-reading-ne0 c).After-read_lines-reading) c.if-reading-ne0.true c.refused.ensures
 
 -- No line is at fault, and the end of the text is looked at.
-module _ (c : After-text-fault) where
-  abbrev lines : After-read-lines
-  lines = c
+module _ (c : After-text_fault-fault) where
+  abbrev lines : After-read_lines-reading
+  lines = c{-After-read_lines-reading-}
 
   sound : lines.read_lines-reading.result.fault ≡ 0
   sound = c.if-reading-ne0.false
@@ -42,18 +42,18 @@ returns-then-fault-ne0 c =
     end_refused (text l) (output l) l.read_lines-reading.result l.read_lines-reading.ensures (room l) c.text_fault-fault.result (sound (goal.at.returns-then-fault-ne0 c).After-text_fault-fault) c.text_fault-fault.ensures c.if-fault-ne0.true c.refused-then-fault-ne0.ensures
 
 -- Nor is the end.
-ended : (c : Else-fault-ne0) → 0 ≡ first_fault (end_tests (output (lines c.before)) (lines c.before).read_lines-reading.result.head-1)
+ended : (c : Else-fault-ne0) → 0 ≡ first_fault (end_tests (output (lines c{-After-text_fault-fault-})) (lines c{-After-text_fault-fault-}).read_lines-reading.result.head)
 ended c = sym c.if-fault-ne0.false ∙ c.text_fault-fault.ensures
 
 pub count_marks-count-requires : goal.count_marks-count-requires
 count_marks-count-requires c = few (lines (goal.at.count_marks-count-requires c).After-text_fault-fault)
 
 -- The marks are counted: never more than points.
-module _ (c : After-count-marks) where
+module _ (c : After-count_marks-count) where
   abbrev fine : Else-fault-ne0
-  fine = c
+  fine = c{-Else-fault-ne0-}
 
-  abbrev reading : After-read-lines
+  abbrev reading : After-read_lines-reading
   reading = lines fine.before
 
   counted : c.count_marks-count.result ≤ 4096

@@ -13,7 +13,7 @@ use Rattle.pla.specs.Table.{mark_of, marks_below, flag_on, flag_free}
 use Rattle.pla.proofs.Marking.{records-start, bytes_next, records-fit, records-stored}
 use lib.Pow.{pow_mono}
 use Rattle.pla.proofs.write_marks.Goals as goal
-use Rattle.pla.proofs.write_marks.Goals.{At-loop-p}
+use Rattle.pla.proofs.write_marks.Goals.{After-is_free, At-loop-p}
 
 pub loop-p-init : goal.loop-p-init
 loop-p-init c =
@@ -24,7 +24,7 @@ loop-p-init c =
       point-count.ensures,
       rw point-count.ensures (pow_mono c.requires.n_le_max_variables),
       omega (arith, ap length none),
-      ap (sets args.room-1.now first_point) (sym none),
+      ap (sets args.room.now first_point) (sym none),
     )
 
 pub bounds-flags-q : goal.bounds-flags-q
@@ -42,23 +42,23 @@ module _ (c : At-loop-p) where
   start = c{-Start-}
 
   abbrev on : ℕ → Bool
-  on = flag_on start.args.t3
+  on = flag_on start.args.flags
 
   abbrev free : ℕ → Bool
-  free = flag_free start.args.kind start.args.t3
+  free = flag_free start.args.kind start.args.flags
 
-  long : length c.loop-p.room-1 ≡ length start.args.room-1.now
-  long = ap length c.loop-p.invariant.4 ∙ length-sets start.args.room-1.now first_point (encode_marks (marks_below on free c.loop-p.p))
+  long : length c.loop-p.room ≡ length start.args.room.now
+  long = ap length c.loop-p.invariant.4 ∙ length-sets start.args.room.now first_point (encode_marks (marks_below on free c.loop-p.p))
 
 -- The point's mark is found.
-module _ (c : After-is-free) where
-  abbrev placed : After-flag-place invariant-loop decreases-loop
-  placed = c
+module _ (c : After-is_free) where
+  abbrev placed : After-flag_place-q invariant-loop decreases-loop
+  placed = c{-After-flag_place-q-}
 
   abbrev turn : At-loop-p invariant-loop decreases-loop
   turn = placed.before.before
 
-  mark : let p = turn.loop-p.p in mark_of (get_or (start turn).args.t3.one placed.flag_place-q.result false) c.is_free.result p ≡ mark_of (on turn p) (free turn p) p
+  mark : let p = turn.loop-p.p in mark_of (get_or (start turn).args.flags.one placed.flag_place-q.result false) c.is_free.result p ≡ mark_of (on turn p) (free turn p) p
   mark =
       let p = turn.loop-p.p in
       ap₂ (λ (o f : Bool). mark_of o f p) (ap (on turn) placed.flag_place-q.ensures) (c.is_free.ensures ∙ ap (free turn) placed.flag_place-q.ensures)
@@ -80,7 +80,7 @@ loop-p-preserved c =
       inv.1,
       inv.2,
       omega (arith, c.write_mark-at.ensures.value, inv.3, ap (λ (ms : List Mark). length (encode_marks ms)) (mark (goal.at.loop-p-preserved c).After-is_free), bytes_next (on k) (free k) p),
-      records-stored (on k) (free k) (start k).args.room-1.now p inv.3 inv.4 (mark (goal.at.loop-p-preserved c).After-is_free) c.write_mark-at.ensures.room_after,
+      records-stored (on k) (free k) (start k).args.room.now p inv.3 inv.4 (mark (goal.at.loop-p-preserved c).After-is_free) c.write_mark-at.ensures.room_after,
     )
 
 pub shape_of-room : goal.shape_of-room

@@ -11,6 +11,7 @@ use Rattle.pla.specs.Table.{flag_marks, flag_on, flag_free}
 use Rattle.pla.proofs.Marking.{marks-few, encode-length, table-written}
 use lib.Pow.{pow_mono}
 use Rattle.pla.proofs.write_table.Goals as goal
+use Rattle.pla.proofs.write_table.Goals.{After-write_marks-at}
 
 pub bounds-room-1 : goal.bounds-room-1
 bounds-room-1 c = simp length-set (omega (arith, c.requires.count_value.1))
@@ -19,16 +20,19 @@ pub write_marks-at-requires : goal.write_marks-at-requires
 write_marks-at-requires c =
     let pre = c.requires in
     let args = c.args in
-    (pre.0, simp length-set (omega (arith, pre.1.0, pre.1.1, encode-length (flag_marks args.kind args.n args.flags))))
+    record {
+      n_le_max_variables = pre.0;
+      flags_in_bounds = simp length-set (omega (arith, pre.1.0, pre.1.1, encode-length (flag_marks args.kind args.n args.flags)));
+    }
 
 -- The marks are written, where the call began, and the room is as long as it was.
-module _ (c : After-write-marks) where
+module _ (c : After-write_marks-at) where
   abbrev start : Start
-  start = c
+  start = c{-Start-}
 
-  kept : length c.write_marks-at.new.1.1.1.0 ≡ length start.args.room-1.now
+  kept : length c.write_marks-at.new.1.1.1.0 ≡ length start.args.room.now
   kept =
-      let lent = start.args.room-1.now in
+      let lent = start.args.room.now in
       let same : length (set (set lent 0 variables_kind) 1 start.args.n) ≡ length lent = simp length-set in
       let left : length c.write_marks-at.new.1.1.1.0 ≡ length (set (set lent 0 variables_kind) 1 start.args.n) = search rules in
       left ∙ same
@@ -56,4 +60,4 @@ returns c =
     let a = s.args in
     c.put_end.ensures
     ∙ ap (λ (l : List ℕ). sets l c.write_marks-at.result (encode_end a.count)) c.write_marks-at.ensures.room_after
-    ∙ table-written a.room-1.now a.n (flag_marks a.kind a.n a.flags) a.count c.write_marks-at.result s.pre.1.0 c.write_marks-at.ensures.value s.pre.1.1
+    ∙ table-written a.room.now a.n (flag_marks a.kind a.n a.flags) a.count c.write_marks-at.result s.pre.1.0 c.write_marks-at.ensures.value s.pre.1.1

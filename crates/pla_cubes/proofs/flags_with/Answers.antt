@@ -1,4 +1,5 @@
 -- `pla_cubes::flags_with` meets its contract: each list of flags is marked by its symbol. Assumes nothing.
+use Prim.Native.Nat.{zero}
 use lib.ListN.{take}
 use Rattle.pla_cubes.specs.Cubes.{Row}
 use Rattle.pla_cubes.proofs.Marking.{says-next}
@@ -13,7 +14,7 @@ returns c =
     λ rows f.
     let row : Row = record { inputs = take args.n args.inputs; output = args.symbol } in
     record {
-      ones = says-next 49 row rows args.flags.one-1 mark.result mark.ensures f.ones;
-      zeros = says-next 48 row rows args.flags.zero-1 mark2.result mark2.ensures f.zeros;
-      dashes = says-next 45 row rows args.flags.dash-1 mark3.result mark3.ensures f.dashes;
+      ones = says-next 49 row rows args.flags.one mark.result mark.ensures f.ones;
+      zeros = says-next 48 row rows args.flags.zero mark2.result mark2.ensures f.zeros;
+      dashes = says-next 45 row rows args.flags.dash mark3.result mark3.ensures f.dashes;
     }

@@ -50,7 +50,7 @@ loop-i-preserved c =
     (omega arith, sym (rw e (cube-output l.n l.o _ _ c.if-n-gt0.false (sym c.takes.ensures ∙ not-false _ c.if-not-takes.false)).1) ∙ l.invariant.1)
 
 -- Where no symbol is left.
-ended : (c : After-loop-i) → eqb c.before.loop-i.n 0 && eqb c.before.loop-i.o 0 ≡ is_cube c.before.before.before.args.inputs c.before.before.before.args.outputs (symbols_of c.before.before.before.args.content.now)
+ended : (c : After-loop-i) → eqb c.loop-i.n 0 && eqb c.loop-i.o 0 ≡ is_cube c.args.inputs c.args.outputs (symbols_of c.args.content.now)
 ended c =
     let l = c.loop-i in
     sym (rw (symbols-end c.args.content.now l.i (omega arith)) (cube-end l.n l.o)) ∙ l.invariant.1

@@ -8,7 +8,7 @@ use Rattle.pla_cubes.proofs.is_input.Goals as goal
 use Rattle.pla_cubes.proofs.is_input.Goals.{Joined-symbol-eq48}
 
 -- A 0 or a 1.
-tested : (c : Joined-symbol-eq48) → c.if-symbol-eq48.if-symbol-eq49 ≡ eqb c.before.args.symbol 48 || eqb c.before.args.symbol 49
+tested : (c : Joined-symbol-eq48) → c.if-symbol-eq48.if-symbol-eq49 ≡ eqb c.args.symbol 48 || eqb c.args.symbol 49
 tested c = either (λ w. eq-eqb _ _ w.true) (λ w. ne_eqb _ _ w.left) c.if-symbol-eq48.branch
 
 pub returns-then-symbol-eq49 : goal.returns-then-symbol-eq49

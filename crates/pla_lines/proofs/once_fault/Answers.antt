@@ -13,8 +13,8 @@ returns-then-given c = rw (c.if-head.false, some_holds (λ w. w.true) (λ w. w.2
 
 pub returns-then-wrong : goal.returns-then-wrong
 unfolding first_fault
-returns-then-wrong c =rw (c.if-head.false, c.if-given.false, c.if-head-ne0.false, c.if-wrong.true)
+returns-then-wrong c = rw (c.if-head.false, c.if-given.false, c.if-head-ne0.false, c.if-wrong.true)
 
 pub returns : goal.returns
 unfolding first_fault
-returns c =rw (c.if-head.false, c.if-given.false, c.if-head-ne0.false, c.if-wrong.false)
+returns c = rw (c.if-head.false, c.if-given.false, c.if-head-ne0.false, c.if-wrong.false)

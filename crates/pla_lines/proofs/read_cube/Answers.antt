@@ -21,7 +21,10 @@ returns-then-fault-ne0 c =
 pub inputs_of-inputs-requires : goal.inputs_of-inputs-requires
 inputs_of-inputs-requires c =
     let args = c.args in
-    (c.requires.inputs, omega (arith, shape-cube args.head (symbols_of args.content.now) (sym c.shape_fault-fault.ensures ∙ c.if-fault-ne0.false)))
+    record {
+      n_le_max_variables = c.requires.inputs;
+      n_in_bounds = omega (arith, shape-cube args.head (symbols_of args.content.now) (sym c.shape_fault-fault.ensures ∙ c.if-fault-ne0.false));
+    }
 
 pub output_symbol-symbol-requires : goal.output_symbol-symbol-requires
 output_symbol-symbol-requires c =

@@ -1,5 +1,6 @@
 -- `pla_lines::read_line` meets its contract: what stands before the comment is a cube or not. Assumes nothing.
 use mathlib.Core.Logic.{◌≢◌}
+use Rattle.pla_text.specs.declared.Statement.{Statement}
 use mathlib.Core.Path.{◌≡◌, sym, ◌∙◌, subst}
 use mathlib.Core.List.{List, [], ◌∷◌}
 use Prim.Native.Nat.{ℕ}
@@ -11,6 +12,8 @@ use Rattle.pla_lines.proofs.Going.{content-cut}
 use Rattle.pla_text.specs.Statements.{statement_of}
 use denote.Enum.Declared.{tag_of}
 use types.Run.{OneOf, miss}
+use Rattle.pla_text.specs.declared.Statement.TheVariants.{Cube}
+use Rattle.pla_text.specs.contracts.Statement.{the_type}
 use Rattle.pla_lines.proofs.read_line.Goals as goal
 
 -- Every statement of the enum but a cube is none.
@@ -34,7 +37,7 @@ returns-in-Cube c =
     let read-cube = c.read_cube in
     λ rows f.
     let cut = (content-cut args.line.now run_end.result run_end.ensures).1 in
-    let s : statement_of (words_of (content_of args.line.now)) ≡ Cube = rw (← cut) (sym c.line_statement-statement.ensures ∙ c.enum_told-1.given.1) in
+    let s : statement_of (words_of (content_of args.line.now)) ≡ Cube = rw (← cut) (sym c.line_statement-statement.ensures ∙ c.in-Cube.is) in
     let told = subst (λ (content : List ℕ). GatheredBy read-cube.result (read_statement args.output args.number args.head rows (symbols_of content) Cube)) cut
     (read-cube.ensures rows f) in
     rw s told

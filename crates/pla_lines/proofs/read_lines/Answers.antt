@@ -28,7 +28,7 @@ returns-then-end-text c =
     let loop = c.loop-head in
     let run_end = c.run_end-end in
     let read-line = c.read_line in
-    finished args.text.now args.output loop.from loop.invariant.0 run_end.result run_end.ensures loop.number loop.head-1 loop.invariant.3.0 read-line.result
+    finished args.text.now args.output loop.from loop.invariant.0 run_end.result run_end.ensures loop.number loop.head loop.invariant.3.0 read-line.result
     (read-line.ensures loop.invariant.3.0 loop.invariant.3.1) loop.invariant.3.2 c.if-end-text.true
 
 pub slice_bounds-read_line-end-in-loop-head : goal.slice_bounds-read_line-end-in-loop-head
@@ -46,7 +46,7 @@ returns-then-reading-ne0 c =
     let loop = c.loop-head in
     let run_end = c.run_end-end in
     let read-line = c.read_line-reading in
-    stopped args.text.now args.output loop.from loop.invariant.0 run_end.result run_end.ensures loop.number loop.head-1 loop.invariant.3.0 read-line.result
+    stopped args.text.now args.output loop.from loop.invariant.0 run_end.result run_end.ensures loop.number loop.head loop.invariant.3.0 read-line.result
     (read-line.ensures loop.invariant.3.0 loop.invariant.3.1) loop.invariant.3.2 c.if-reading-ne0.true
 
 pub overflow_add-from : goal.overflow_add-from
@@ -81,7 +81,7 @@ loop-head-preserved c =
     let read-line = c.read_line-reading in
     let if1 = c.if-end-text in
     let inside = line-inside args.text.now loop.from loop.invariant.0 run_end.result run_end.ensures in
-    let k = going args.text.now args.output loop.from loop.invariant.0 run_end.result run_end.ensures loop.number loop.head-1 loop.invariant.3.0
+    let k = going args.text.now args.output loop.from loop.invariant.0 run_end.result run_end.ensures loop.number loop.head loop.invariant.3.0
     read-line.result (read-line.ensures loop.invariant.3.0 loop.invariant.3.1) loop.invariant.3.2 loop.invariant.2 c.if-reading-ne0.false
     (omega (arith, inside.1, if1.false)) in
     (omega (arith, inside.1, if1.false), omega (arith, inside.0, loop.invariant.1), k.0, k.1)

@@ -4,6 +4,7 @@ use mathlib.Core.Bool.{cond}
 use borrow.Author.Tests.{eq-eqb, ne_eqb}
 use lib.Dec.{eqb}
 use Rattle.pla_text.specs.Statements.{operand_of, directive_of}
+use Rattle.pla_text.specs.declared.Statement.TheVariants.{Wrong}
 use Rattle.pla_text.proofs.Tests.{some_holds}
 use Rattle.pla_text.proofs.directive.Goals as goal
 use Rattle.pla_text.proofs.directive.Goals.{Else-same-4}

@@ -8,7 +8,7 @@ use Rattle.pla_text.proofs.is_blank.Goals as goal
 use Rattle.pla_text.proofs.is_blank.Goals.{Joined-byte-eq32}
 
 -- A space or a tab.
-tested : (c : Joined-byte-eq32) → c.if-byte-eq32.if-byte-eq9 ≡ eqb c.before.args.byte 32 || eqb c.before.args.byte 9
+tested : (c : Joined-byte-eq32) → c.if-byte-eq32.if-byte-eq9 ≡ eqb c.args.byte 32 || eqb c.args.byte 9
 tested c = either (λ w. eq-eqb _ _ w.true) (λ w. ne_eqb _ _ w.left) c.if-byte-eq32.branch
 
 pub returns-then-byte-eq9 : goal.returns-then-byte-eq9

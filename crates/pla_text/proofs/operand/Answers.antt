@@ -1,6 +1,7 @@
 -- `pla_text::operand` meets its contract: its tests are those of the definition, in their order. Assumes nothing.
 use mathlib.Core.Path.{ap}
 use Rattle.pla_text.specs.Statements.{operand_of}
+use Rattle.pla_text.specs.declared.Statement.TheVariants.{Products, Meaning}
 use Rattle.pla_text.proofs.Tests.{chosen, passed}
 use Rattle.pla_text.proofs.operand.Goals as goal
 

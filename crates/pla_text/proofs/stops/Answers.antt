@@ -4,13 +4,13 @@ use mathlib.Core.Bool.{not}
 use Rattle.pla_text.proofs.stops.Goals as goal
 
 pub returns-in-Newline : goal.returns-in-Newline
-returns-in-Newline c = rw c.enum_told-1.given.1
+returns-in-Newline c = rw c.in-Newline.is
 
 pub returns-in-Hash : goal.returns-in-Hash
-returns-in-Hash c = rw c.enum_told-in-Hash-1.given.1
+returns-in-Hash c = rw c.in-Hash.is
 
 pub returns-in-Blank : goal.returns-in-Blank
-returns-in-Blank c = rw c.enum_told-in-Blank-1.given.1 c.is_blank.ensures
+returns-in-Blank c = rw c.in-Blank.is c.is_blank.ensures
 
 pub returns-in-Word : goal.returns-in-Word
-returns-in-Word c = rw c.enum_told-in-Word-1.given.1 (ap not c.is_blank-in-Word.ensures)
+returns-in-Word c = rw c.in-Word.is (ap not c.is_blank-in-Word.ensures)

@@ -13,7 +13,7 @@ use Rattle.stored.specs.Stored.{LaidOut}
 use Rattle.stored.proofs.Accepting.{stored-laid, stored-valid}
 use Rattle.point_marks.proofs.Marks.{put_marks, put_next, marks-at}
 use Rattle.point_marks.proofs.marks_of.Goals as goal
-use Rattle.point_marks.proofs.marks_of.Goals.{In-loop-i}
+use Rattle.point_marks.proofs.marks_of.Goals.{After-flag_place-place, In-loop-i}
 
 record-count-requires : Need-record-count-requires invariant-loop decreases-loop
 
@@ -23,7 +23,7 @@ pub loop-i-init : goal.loop-i-init
 loop-i-init c = (search rules, c.record_count-count.ensures, refl, refl)
 
 -- In the loop: the record is one of the table, and the table is laid out.
-listed : (c : In-loop-i) → let bytes = c.before.before.before.before.args.bytes.now in LaidOut bytes × (c.before.loop-i.i < length (marks bytes))
+listed : (c : In-loop-i) → let bytes = c.args.bytes.now in LaidOut bytes × (c.loop-i.i < length (marks bytes))
 listed c =(stored-laid c.args.bytes.now c.requires, omega (arith, c.loop-i.invariant.1))
 
 pub point_at-requires : goal.point_at-requires
@@ -37,7 +37,7 @@ record-mark-requires : Need-record-mark-requires invariant-loop decreases-loop
 record-mark-requires c κs = search rules
 
 -- The place is that of the record's point, and its mark is the record's.
-placed : (c : After-flag-place)
+placed : (c : After-flag_place-place)
     → c.flag_place-place.result ≡ (get_or (marks c.args.bytes.now) c.loop-i.i no_mark).point
 placed c =
     let ms = marks c.args.bytes.now in

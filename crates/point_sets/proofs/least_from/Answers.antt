@@ -6,17 +6,17 @@ use lib.Count.{count_trailing_zeros, trailing_le}
 use Rattle.moves.specs.Moves.{mask_size}
 use Rattle.point_sets.proofs.Sets.{rest_of, none-next, least-found}
 use Rattle.point_sets.proofs.least_from.Goals as goal
-use Rattle.point_sets.proofs.least_from.Goals.{Then-rest-ne0}
+use Rattle.point_sets.proofs.least_from.Goals.{After-word_of, Then-rest-ne0}
 
 pub loop-at-init : goal.loop-at-init
 loop-at-init c = (omega arith, c.requires, λ x l h. absurd (omega arith))
 
 -- What is left of the word.
-rest : (c : After-word-of) → c.word_of.result / 2 ^ (c.before.before.loop-at.at % mask_size) ≡ rest_of c.before.before.before.args.set.now c.before.before.loop-at.at
+rest : (c : After-word_of) → c.word_of.result / 2 ^ (c.loop-at.at % mask_size) ≡ rest_of c.args.set.now c.loop-at.at
 rest c = ap (λ (word : ℕ). word / 2 ^ (c.loop-at.at % mask_size)) c.word_of.ensures
 
 -- Its trailing zeros are at most 64.
-few : (c : Then-rest-ne0) → count_trailing_zeros mask_size (c.before.word_of.result / 2 ^ (c.before.before.before.loop-at.at % mask_size)) ≤ mask_size
+few : (c : Then-rest-ne0) → count_trailing_zeros mask_size (c.word_of.result / 2 ^ (c.loop-at.at % mask_size)) ≤ mask_size
 few c = trailing_le mask_size (c.word_of.result / 2 ^ (c.loop-at.at % mask_size))
 
 pub overflow_cast-result : goal.overflow_cast-result

@@ -11,9 +11,10 @@ use Rattle.gf2.specs.Bits.{◌⊕◌}
 use Rattle.point_sets.specs.Sets.{member}
 use Rattle.point_sets.proofs.Sets.{moved-member}
 use Rattle.point_sets.proofs.moved_set.Goals as goal
+use Rattle.point_sets.proofs.moved_set.Goals.{After-flag_place-word}
 
 -- The places of the other words.
-others : (c : After-flag-place) → (c.flag_place-word.result ⊕ 1 < 4) × (c.flag_place-word.result ⊕ 2 < 4) × (c.flag_place-word.result ⊕ 3 < 4)
+others : (c : After-flag_place-word) → (c.flag_place-word.result ⊕ 1 < 4) × (c.flag_place-word.result ⊕ 2 < 4) × (c.flag_place-word.result ⊕ 3 < 4)
 others c = (fits 1 (lit< tt), fits 2 (lit< tt), fits 3 (lit< tt))
   where
     fits : (k : ℕ) → k < 4 → c.flag_place-word.result ⊕ k < 4

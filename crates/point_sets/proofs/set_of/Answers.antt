@@ -12,12 +12,13 @@ use Rattle.table.proofs.Table.{inside-at}
 use Rattle.point_sets.specs.Sets.{set_variables, set_size, member}
 use Rattle.point_sets.proofs.Sets.{empty-member, put-member}
 use Rattle.point_sets.proofs.set_of.Goals as goal
+use Rattle.point_sets.proofs.set_of.Goals.{After-flag_place-word}
 
 pub loop-i-init : goal.loop-i-init
 loop-i-init c = (search rules, search rules, λ x. ap (λ (t : Bool). t || holds c.args.points.now x) (empty-member x))
 
 -- The point is one of the set's.
-point : (c : After-flag-place) → get_or c.before.before.before.before.before.args.points.now c.before.before.before.loop-i.i 0 < set_size
+point : (c : After-flag_place-word) → get_or c.args.points.now c.loop-i.i 0 < set_size
 point c =
     inside-at set_variables c.args.points.now c.requires c.loop-i.i (omega arith)
 

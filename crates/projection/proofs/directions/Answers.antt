@@ -29,7 +29,10 @@ pub insert-basis-requires : goal.insert-basis-requires
 insert-basis-requires c =
     let l = c.loop-i in
     let ps = c.args.on.now in
-    (l.invariant.1, xor_lt max_variables (get_or ps l.i 0) (get_or ps 0 0) (inside-at max_variables ps c.requires.on_value l.i (omega arith)) (inside-at max_variables ps c.requires.on_value 0 c.requires.on_nonzero))
+    record {
+      basis = l.invariant.1;
+      v_bound = xor_lt max_variables (get_or ps l.i 0) (get_or ps 0 0) (inside-at max_variables ps c.requires.on_value l.i (omega arith)) (inside-at max_variables ps c.requires.on_value 0 c.requires.on_nonzero);
+    }
 
 -- One point passed.
 passed : (ps : List ℕ) (i : ℕ) → i < length ps → (b : Basis) → b ≡ basis_of (inserts [] (map (λ q. q ⊕ get_or ps 0 0) (take i ps)))

@@ -19,7 +19,7 @@ pub loop-left-init : goal.loop-left-init
 loop-left-init c = (c.ranges.mask.fits, λ n h. (h, refl))
 
 -- Something is left of the mask.
-some : (c : In-loop-left) → 0 < c.before.loop-left.left
+some : (c : In-loop-left) → 0 < c.loop-left.left
 some c = pos_of_ne-zero c.loop-left-test.true
 
 pub lead-place-requires : goal.lead-place-requires

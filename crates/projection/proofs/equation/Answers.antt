@@ -21,22 +21,25 @@ loop-i-init c =
     (omega arith, shifted_one c.args.place 16 (omega arith) ∙ sym (equation-nil c.args.place))
 
 pub offset_bounds-vectors-i : goal.offset_bounds-vectors-i
-offset_bounds-vectors-i c =omega (arith, vector-room c.args.basis c.requires.basis c.loop-i.i (omega arith))
+offset_bounds-vectors-i c = omega (arith, vector-room c.args.basis c.requires.basis c.loop-i.i (omega arith))
 
 pub bounds-vectors-i : goal.bounds-vectors-i
-bounds-vectors-i c =vector-room c.args.basis c.requires.basis c.loop-i.i (omega arith)
+bounds-vectors-i c = vector-room c.args.basis c.requires.basis c.loop-i.i (omega arith)
 
 pub lead_term-mask-requires : goal.lead_term-mask-requires
 lead_term-mask-requires c =
     let b = c.args.basis in
     let i = c.loop-i.i in
-    let v = get_or b.vectors-1 i 0 in
-    ((vector-pos b c.requires.basis i (omega arith), c.requires.basis.below v (vector-mem b c.requires.basis i (omega arith))), omega arith)
+    let v = get_or b.vectors i 0 in
+    record {
+      b_nonzero = (vector-pos b c.requires.basis i (omega arith), c.requires.basis.below v (vector-mem b c.requires.basis i (omega arith)));
+      place_lt_max_variables = omega arith;
+    }
 
 -- One vector passed.
 passed : (b : Basis) → IsBasis b → (k i : ℕ) → i < b.len
-    → equation (take i (vectors_of b)) k ⊕ cond (bit k (get_or b.vectors-1 i 0)) (2 ^ lead (get_or b.vectors-1 i 0)) 0 ≡ equation (take (i + 1) (vectors_of b)) k
-passed b g k i h = rw (add-one, ← (get_or-take b.len b.vectors-1 i 0 h)) (sym (equation-take (vectors_of b) i k (omega (arith, basis-len b g))))
+    → equation (take i (vectors_of b)) k ⊕ cond (bit k (get_or b.vectors i 0)) (2 ^ lead (get_or b.vectors i 0)) 0 ≡ equation (take (i + 1) (vectors_of b)) k
+passed b g k i h = rw (add-one, ← (get_or-take b.len b.vectors i 0 h)) (sym (equation-take (vectors_of b) i k (omega (arith, basis-len b g))))
 
 pub loop-i-preserved : goal.loop-i-preserved
 loop-i-preserved c =

@@ -24,15 +24,15 @@ write_point-count-requires c =
     let a = c.args in
     let t = is_kept a.leads (flagged a.flags.now) in
     let g = project (places_clear a.n a.leads) in
-    let k : l.w < 2 ^ a.n = omega (arith, c.point_count-size.ensures) in (
-      omega (arith, pow_mono c.requires.n_le_max_variables),
-      λ e. omega (
+    let k : l.w < 2 ^ a.n = omega (arith, c.point_count-size.ensures) in record {
+      w_bound = omega (arith, pow_mono c.requires.n_le_max_variables);
+      count_in_bounds = λ e. omega (
         arith,
-        written-room g t l.w (2 ^ a.n) a.room-1.now c.requires.flags_in_bounds k e,
-        written-length g t l.w (2 ^ a.n) a.room-1.now c.requires.flags_in_bounds l.invariant.0,
+        written-room g t l.w (2 ^ a.n) a.room.now c.requires.flags_in_bounds k e,
+        written-length g t l.w (2 ^ a.n) a.room.now c.requires.flags_in_bounds l.invariant.0,
         ap length l.invariant.2,
-      ),
-    )
+      );
+    }
 
 pub loop-w-preserved : goal.loop-w-preserved
 unfolding kept
@@ -45,8 +45,8 @@ loop-w-preserved c =
     let k : l.w < 2 ^ a.n = omega (arith, c.point_count-size.ensures) in (
       omega arith,
       count-step t l.w l.count p.result l.invariant.1 (t l.w) refl p.ensures.0,
-      write_step g t l.w l.count a.room-1.now l.room-1 _ l.invariant.1 l.invariant.2
-          (λ e. rw l.invariant.1 (written-room g t l.w (2 ^ a.n) a.room-1.now c.requires.flags_in_bounds k e)) (t l.w) refl (p.ensures.1 a.n k),
+      write_step g t l.w l.count a.room.now l.room _ l.invariant.1 l.invariant.2
+          (λ e. rw l.invariant.1 (written-room g t l.w (2 ^ a.n) a.room.now c.requires.flags_in_bounds k e)) (t l.w) refl (p.ensures.1 a.n k),
     )
 
 pub shape_of-room : goal.shape_of-room
@@ -55,7 +55,7 @@ shape_of-room c =
     let l = c.loop-w in
     let a = c.args in
     ap length l.invariant.2
-    ∙ written-length (project (places_clear a.n a.leads)) (is_kept a.leads (flagged a.flags.now)) l.w (2 ^ a.n) a.room-1.now c.requires.flags_in_bounds l.invariant.0
+    ∙ written-length (project (places_clear a.n a.leads)) (is_kept a.leads (flagged a.flags.now)) l.w (2 ^ a.n) a.room.now c.requires.flags_in_bounds l.invariant.0
 
 pub returns : goal.returns
 unfolding kept
@@ -64,4 +64,4 @@ returns c =
     let a = c.args in
     let e : l.w ≡ 2 ^ a.n = omega (arith, c.point_count-size.ensures) in
     l.invariant.2
-    ∙ ap (λ (k : ℕ). front (map (project (places_clear a.n a.leads)) (select (is_kept a.leads (flagged a.flags.now)) k)) a.room-1.now) e
+    ∙ ap (λ (k : ℕ). front (map (project (places_clear a.n a.leads)) (select (is_kept a.leads (flagged a.flags.now)) k)) a.room.now) e

@@ -8,6 +8,7 @@ use lib.ListN.{length}
 use Rattle.space.specs.Witness.{flagged}
 use Rattle.projection.specs.Masks.{is_kept}
 use Rattle.projection.proofs.write_point.Goals as goal
+use Rattle.projection.proofs.write_point.Goals.{After-drop_places}
 
 pub returns-then-not-is_kept : goal.returns-then-not-is_kept
 returns-then-not-is_kept c =
@@ -16,7 +17,7 @@ returns-then-not-is_kept c =
     record { value = rw dropped; by_index = λ n h. rw dropped }
 
 -- Past the test the point is kept, so that the room has a place for it.
-module _ (c : After-drop-places) where
+module _ (c : After-drop_places) where
   kept : is_kept c.args.leads (flagged c.args.flags.now) c.args.w ≡ true
   kept = sym c.is_kept.ensures ∙ not-false c.is_kept.result c.if-not-is_kept.false
 

@@ -39,7 +39,7 @@ module _ (c : At-loop-i) where
   dropped = ap (λ (size : ℕ). places_clear n (leads ⊕ (size - 1))) c.point_count-all.ensures ∙ turned_set n leads
 
 pub bounds-room-i : goal.bounds-room-i
-bounds-room-i c =omega (arith, so_far (goal.at.bounds-room-i c).At-loop-i, c.requires)
+bounds-room-i c = omega (arith, so_far (goal.at.bounds-room-i c).At-loop-i, c.requires)
 
 -- One point passed.
 passed : (n leads : ℕ) (ps room : List ℕ) (i : ℕ) → i < length ps → i < length room
@@ -59,4 +59,4 @@ pub shape_of-room : goal.shape_of-room
 shape_of-room c = so_far (goal.at.shape_of-room c).At-loop-i
 
 pub returns : goal.returns
-returns c =c.loop-i.invariant.1 ∙ fill-all (projected (n (goal.at.returns c).At-loop-i) (leads (goal.at.returns c).At-loop-i) (on (goal.at.returns c).At-loop-i)) (room (goal.at.returns c).At-loop-i) c.loop-i.i (rw projected-length (omega arith))
+returns c = c.loop-i.invariant.1 ∙ fill-all (projected (n (goal.at.returns c).At-loop-i) (leads (goal.at.returns c).At-loop-i) (on (goal.at.returns c).At-loop-i)) (room (goal.at.returns c).At-loop-i) c.loop-i.i (rw projected-length (omega arith))

@@ -12,6 +12,7 @@ use Rattle.records.specs.declared.Step.TheVariants.{Whole, Stop}
 use Rattle.records.specs.Walks.{end_step}
 use Rattle.records.proofs.Whole.{body-length}
 use Rattle.records.proofs.end_step.Goals as goal
+use Rattle.records.proofs.end_step.Goals.{In-Whole}
 
 -- The end record at a place of the bytes, its body whole: its two bytes are not the number, or they are and a byte follows, or none does.
 module _ (s : List ℕ) (count place l : ℕ) where
@@ -32,14 +33,14 @@ module _ (s : List ℕ) (count place l : ℕ) where
 
 pub returns-in_default : goal.returns-in_default
 returns-in_default c =
-    let e = c.enum_told-1.given.1 in
+    let e = c.in_default.is in
     e ∙ rw (sym c.body_step-found.ensures ∙ e)
 
 -- The length of the body, and the bytes that are there.
-whole : (c : After-known-told) → (c.before.found-1.given.0.0 ≡ 2) × (c.before.before.before.before.before.args.place + 3 ≤ length c.before.before.before.before.before.args.bytes.now)
+whole : (c : In-Whole) → (c.in-Whole.length ≡ 2) × (c.args.place + 3 ≤ length c.args.bytes.now)
 whole c =
     let a = c.args in
-    let h = body-length a.body a.place (drop (a.place + 1) a.bytes.now) c.found-1.given.0.0 (sym c.body_step-found.ensures ∙ c.found-1.given.1) in
+    let h = body-length a.body a.place (drop (a.place + 1) a.bytes.now) c.in-Whole.length (sym c.body_step-found.ensures ∙ c.in-Whole.is) in
     (h.0 ∙ c.requires.body_value, omega (arith, c.requires.body_value, h.1, length-drop (a.place + 1) a.bytes.now))
 
 pub overflow_add-next-2 : goal.overflow_add-next-2
@@ -54,17 +55,17 @@ bounds-bytes-place-2 c = omega (arith, (whole (goal.at.bounds-bytes-place-2 c).I
 pub returns-then-word-count : goal.returns-then-word-count
 returns-then-word-count c =
     let a = c.args in
-    rw (sym c.body_step-found.ensures ∙ c.found-1.given.1)
-    (other a.bytes.now a.count a.place c.found-1.given.0.0 (λ e. c.if-word-count.true (c.word.ensures ∙ e)))
+    rw (sym c.body_step-found.ensures ∙ c.in-Whole.is)
+    (other a.bytes.now a.count a.place c.in-Whole.length (λ e. c.if-word-count.true (c.word.ensures ∙ e)))
 
 pub returns-then-next-bytes : goal.returns-then-next-bytes
 returns-then-next-bytes c =
     let a = c.args in
-    rw (sym c.body_step-found.ensures ∙ c.found-1.given.1)
-    (more a.bytes.now a.count a.place c.found-1.given.0.0 (sym c.word.ensures ∙ c.if-word-count.false) c.if-next-bytes.true)
+    rw (sym c.body_step-found.ensures ∙ c.in-Whole.is)
+    (more a.bytes.now a.count a.place c.in-Whole.length (sym c.word.ensures ∙ c.if-word-count.false) c.if-next-bytes.true)
 
 pub returns-else-next-bytes : goal.returns-else-next-bytes
 returns-else-next-bytes c =
     let a = c.args in
-    rw (sym c.body_step-found.ensures ∙ c.found-1.given.1)
-    (done a.bytes.now a.count a.place c.found-1.given.0.0 (sym c.word.ensures ∙ c.if-word-count.false) c.if-next-bytes.false)
+    rw (sym c.body_step-found.ensures ∙ c.in-Whole.is)
+    (done a.bytes.now a.count a.place c.in-Whole.length (sym c.word.ensures ∙ c.if-word-count.false) c.if-next-bytes.false)

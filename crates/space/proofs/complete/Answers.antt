@@ -77,11 +77,14 @@ returns-then-n-gt-MAX_SEARCHED c =
 
 pub closure_set-closure-requires : goal.closure_set-closure-requires
 closure_set-closure-requires c =
-    (on-few c.requires c.if-n-gt-MAX_SEARCHED.false, free-few c.requires c.if-n-gt-MAX_SEARCHED.false)
+    record { on_value = on-few c.requires c.if-n-gt-MAX_SEARCHED.false; free_value = free-few c.requires c.if-n-gt-MAX_SEARCHED.false }
 
 pub largest_in-basis-requires : goal.largest_in-basis-requires
 largest_in-basis-requires c =
-    (c.if-n-gt-MAX_SEARCHED.false, c.closure_set-closure.ensures 0 (omega arith) ∙ closes-zero c.args.on.now c.args.free.now)
+    record {
+      n_le_set_variables = c.if-n-gt-MAX_SEARCHED.false;
+      set_value = c.closure_set-closure.ensures 0 (omega arith) ∙ closes-zero c.args.on.now c.args.free.now;
+    }
 
 pub spread_flags-requires : goal.spread_flags-requires
 spread_flags-requires c =

@@ -56,7 +56,7 @@ pub returns-in_default : goal.returns-in_default
 returns-in_default c =
     let a = c.args in
     kept (test (goal.at.returns-in_default c).Start) a.v a.basis c.requires.v_bound.1
-    (witness-broken a.n (flagged a.flags.now) a.v c.first_witness.result c.first_witness.ensures _ _ c.enum_told-in_default-1.given.1)
+    (witness-broken a.n (flagged a.flags.now) a.v c.first_witness.result c.first_witness.ensures _ _ c.in_default.is)
 
 pub insert-requires : goal.insert-requires
 insert-requires c =
@@ -70,4 +70,4 @@ pub returns : goal.returns
 returns c =
     let a = c.args in
     joined (test (goal.at.returns c).Start) a.v a.basis c.requires.v_bound.1 c.insert.result c.insert.ensures.value
-    (none-closed a.n (flagged a.flags.now) a.v c.first_witness.result c.first_witness.ensures c.enum_told-1.given.1)
+    (none-closed a.n (flagged a.flags.now) a.v c.first_witness.result c.first_witness.ensures c.in-None.is)

@@ -29,6 +29,7 @@ use Rattle.space.specs.Witness.{flagged, FirstWitness, Answers, Searchable}
 use Rattle.space.proofs.Closure.{closed_of, closed-broken, closed-space, closed-units, linear-reduced, linear-span, linear-below, linear-inserts}
 use Rattle.space.proofs.Steps.{mask-reducible}
 use Rattle.space.proofs.linear_space.Goals as goal
+use Rattle.space.proofs.linear_space.Goals.{After-first_witness, In-At}
 
 -- The basis of the vectors below v under which the function is closed.
 abbrev ClosedBelow : ℕ → (ℕ → Bool) → ℕ → Basis → Type 0
@@ -107,7 +108,7 @@ first_witness-requires c =
     record { n_le_max_variables = c.requires; searchable = rw (lent c.args.n f.result f.ensures.value) (searchable c.args.n) }
 
 -- What the search over the full basis found.
-answered : (c : After-first-witness)
+answered : (c : After-first_witness)
     → (let s = c.args in Answers (flagged s.flags.now) (2 ^ s.n) (units s.n) c.first_witness.result)
 answered c =
     let s = c.args in
@@ -120,16 +121,16 @@ returns-in_default c =
     let f = flagged c.args.flags.now in
     let full = c.full-full in
     whole c.args.n f c.requires full.result
-    (full.ensures.value ∙ ap basis_of (none-full c.args.n f (rw c.enum_told-1.given.1 at (answered (goal.at.returns-in_default c).After-first_witness))))
+    (full.ensures.value ∙ ap basis_of (none-full c.args.n f (rw c.in_default.is at (answered (goal.at.returns-in_default c).After-first_witness))))
 
 -- The call, from the place where a witness is known, and from the loop.
-abbrev call : After-known-told invariant-loop decreases-loop → Start invariant-loop decreases-loop
+abbrev call : In-At invariant-loop decreases-loop → Start invariant-loop decreases-loop
 call c = c.before.before.before.before.before.before.before
 
 abbrev loop-call : At-loop-v invariant-loop decreases-loop → Start invariant-loop decreases-loop
 loop-call l = call l.before.before.before.before.before
 
-module _ (c : After-known-told) where
+module _ (c : In-At) where
   abbrev vars : ℕ
   vars = (call c).args.n
 
@@ -137,13 +138,13 @@ module _ (c : After-known-told) where
   func = flagged (call c).args.flags.now
 
   abbrev vector : ℕ
-  vector = c.a-1.given.0.0
+  vector = c.in-At.a
 
   abbrev point : ℕ
-  point = c.a-1.given.0.1.0
+  point = c.in-At.field-1
 
   witnessed : FirstWitness func (2 ^ vars) (units vars) vector point
-  witnessed = rw c.a-1.given.1 at (answered c)
+  witnessed = rw c.in-At.is at (answered c{-After-first_witness-})
 
   vector-pos : 0 < vector
   vector-pos = pos vars func vector point witnessed
@@ -159,7 +160,7 @@ full-basis-requires c =
     omega (arith, c.lead.ensures, lead-fits (vars (goal.at.full-basis-requires c).In-At) (vector (goal.at.full-basis-requires c).In-At) (vector-pos (goal.at.full-basis-requires c).In-At) (vector-low (goal.at.full-basis-requires c).In-At), (call (goal.at.full-basis-requires c).In-At).requires)
 
 pub overflow_add-v : goal.overflow_add-v
-overflow_add-v c =omega (arith, vector-low (goal.at.overflow_add-v c).In-At, pow_mono (call (goal.at.overflow_add-v c).In-At).requires)
+overflow_add-v c = omega (arith, vector-low (goal.at.overflow_add-v c).In-At, pow_mono (call (goal.at.overflow_add-v c).In-At).requires)
 
 pub loop-v-init : goal.loop-v-init
 loop-v-init c =
@@ -171,7 +172,7 @@ loop-v-init c =
     )
 
 pub grown-basis-requires : goal.grown-basis-requires
-grown-basis-requires c =((loop-call (goal.at.grown-basis-requires c).At-loop-v).requires, (omega arith, c.loop-v.invariant.0))
+grown-basis-requires c = ((loop-call (goal.at.grown-basis-requires c).At-loop-v).requires, (omega arith, c.loop-v.invariant.0))
 
 pub leads-leads-requires-then-leads-v-eq0 : goal.leads-leads-requires-then-leads-v-eq0
 leads-leads-requires-then-leads-v-eq0 c =

@@ -14,6 +14,7 @@ use Rattle.records.specs.declared.Step.TheVariants.{Stop}
 use Rattle.records.specs.Kinds.{head_of}
 use Rattle.stored.specs.Layout.{first_table_kind}
 use Rattle.stored.proofs.first_step.Goals as goal
+use Rattle.stored.proofs.first_step.Goals.{In-Known}
 
 -- Every kind but the first of the enum stands wrong here.
 wrong : (k : Kind) (l : ℕ) (rest : List ℕ) → OneOf (1 ∷ 2 ∷ 3 ∷ 4 ∷ 5 ∷ []) (tag_of the_type k) → Stop (WrongKind 0) ≡ first_table_kind k l rest
@@ -25,17 +26,17 @@ wrong On l rest h = refl
 wrong Free l rest h = refl
 
 pub returns-in-Refused : goal.returns-in-Refused
-returns-in-Refused c = rw (sym c.head_of.ensures ∙ c.fault-1.given.1)
+returns-in-Refused c = rw (sym c.head_of.ensures ∙ c.in-Refused.is)
 
 -- The kind of the first byte, once it is known.
-known : (c : After-known-told2) → head_of (get_or c.before.before.before.before.before.before.args.bytes.now 0 0) 0 ≡ Known c.before.kind-1.given.0.0 c.before.kind-1.given.0.1.0
-known c = sym c.head_of.ensures ∙ c.kind-1.given.1
+known : (c : In-Known) → head_of (get_or c.args.bytes.now 0 0) 0 ≡ Known c.in-Known.kind c.in-Known.body
+known c = sym c.head_of.ensures ∙ c.in-Known.is
 
 pub returns-in-Variables : goal.returns-in-Variables
 returns-in-Variables c =
-    c.body_step.ensures ∙ sym (rw (known (goal.at.returns-in-Variables c).In-Known, c.enum_told-1.given.1))
+    c.body_step.ensures ∙ sym (rw (known (goal.at.returns-in-Variables c).In-Known, c.in-Variables.is))
 
 pub returns-in_default : goal.returns-in_default
 returns-in_default c =
-    let g = c.kind-1.given.0 in
+    let g = c.kind.given.0 in
     rw (known (goal.at.returns-in_default c).In-Known) (wrong g.0 g.1.0 (drop 1 c.args.bytes.now) c.in-Variables.keys2)

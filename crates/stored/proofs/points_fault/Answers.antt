@@ -7,12 +7,13 @@ use Rattle.table.specs.Table.{bad_count, outside}
 use Rattle.table.proofs.Table.{good-count}
 use Rattle.stored.specs.Marks.{stored_variables, stored_points}
 use Rattle.stored.proofs.points_fault.Goals as goal
+use Rattle.stored.proofs.points_fault.Goals.{After-bad_count, After-points_outside}
 
 -- The tests of n and of the points, as they are known once they are made.
-counted : (c : After-bad-count) → bad_count (stored_variables c.before.before.before.args.bytes.now) ≡ c.bad_count.result
+counted : (c : After-bad_count) → bad_count (stored_variables c.args.bytes.now) ≡ c.bad_count.result
 counted c = ap bad_count (sym c.variables-n.ensures) ∙ sym c.bad_count.ensures
 
-surveyed : (c : After-points-outside)
+surveyed : (c : After-points_outside)
     →    let bytes = c.args.bytes.now in
     outside (stored_variables bytes) (stored_points bytes) ≡ c.points_outside.result
 surveyed c =

@@ -27,7 +27,7 @@ pub point_at-requires : goal.point_at-requires
 point_at-requires c = record { laid_out = search rules; i_in_bounds = omega arith }
 
 pub point_at-requires-in-loop-i : goal.point_at-requires-in-loop-i
-point_at-requires-in-loop-i c = (search rules, omega arith)
+point_at-requires-in-loop-i c = record { laid_out = search rules; i_in_bounds = omega arith }
 
 pub returns-then-point_at : goal.returns-then-point_at
 returns-then-point_at c =

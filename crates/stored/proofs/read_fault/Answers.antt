@@ -14,14 +14,14 @@ use Rattle.stored.specs.Reading.{read_tests, read_fault, read_place}
 use Rattle.stored.proofs.Accepting.{stored-laid, stored-zero}
 use Rattle.stored.proofs.Rooms.{stored-first, stored-place, then-room, then-place}
 use Rattle.stored.proofs.read_fault.Goals as goal
-use Rattle.stored.proofs.read_fault.Goals.{Else-fault-ne0}
+use Rattle.stored.proofs.read_fault.Goals.{After-stored_fault-fault, Else-fault-ne0}
 
 -- The number and the place that were found are those of the stored table.
-number : (c : After-stored-fault) → c.stored_fault-fault.result.number ≡ stored_fault c.before.before.args.bytes.now
+number : (c : After-stored_fault-fault) → c.stored_fault-fault.result.number ≡ stored_fault c.args.bytes.now
 unfolding stored_fault
 number c = ap (λ (f : Fault). f.number) c.stored_fault-fault.ensures
 
-place : (c : After-stored-fault) → c.stored_fault-fault.result.place ≡ stored_place c.before.before.args.bytes.now
+place : (c : After-stored_fault-fault) → c.stored_fault-fault.result.place ≡ stored_place c.args.bytes.now
 unfolding stored_place
 place c = ap (λ (f : Fault). f.place) c.stored_fault-fault.ensures
 
@@ -36,7 +36,7 @@ returns-then-fault-ne0 c =
     let nz : stored_fault a.bytes.now ≢ 0 = λ z. c.if-fault-ne0.true (number (goal.at.returns-then-fault-ne0 c).After-stored_fault-fault ∙ z) in
     as-told a.bytes.now a.on a.free (number (goal.at.returns-then-fault-ne0 c).After-stored_fault-fault ∙ sym (stored-first a.bytes.now a.on a.free nz)) (place (goal.at.returns-then-fault-ne0 c).After-stored_fault-fault ∙ sym (stored-place a.bytes.now a.on a.free nz))
 
-no-stored : (c : Else-fault-ne0) → stored_fault c.before.before.before.before.args.bytes.now ≡ 0
+no-stored : (c : Else-fault-ne0) → stored_fault c.args.bytes.now ≡ 0
 no-stored c = sym (number c{-After-stored_fault-fault-}) ∙ c.if-fault-ne0.false
 
 pub count_points-requires : goal.count_points-requires
@@ -54,7 +54,7 @@ returns-then-on-count_points c =
     (sym (then-room a.bytes.now a.on a.free (no-stored (goal.at.returns-then-on-count_points c).Else-fault-ne0) ∙ (rw (lt-ltb a.on _ short))))
 
 pub count_points-requires-2 : goal.count_points-requires-2
-count_points-requires-2 c =stored-laid c.args.bytes.now (no-stored (goal.at.count_points-requires-2 c).Else-fault-ne0)
+count_points-requires-2 c = stored-laid c.args.bytes.now (no-stored (goal.at.count_points-requires-2 c).Else-fault-ne0)
 
 pub returns-then-free-count_points : goal.returns-then-free-count_points
 returns-then-free-count_points c =

@@ -17,6 +17,7 @@ use Rattle.records.specs.Kinds.{body_length, head_of}
 use Rattle.records.proofs.KindBytes.{head-known}
 use Rattle.stored.specs.Layout.{later_table_kind, longest_table, table_step}
 use Rattle.stored.proofs.record_step.Goals as goal
+use Rattle.stored.proofs.record_step.Goals.{In-Known}
 
 -- Every kind of the enum but the end, an on point and a free point stands wrong here.
 wrong : (k : Kind) (l count place : ℕ) (rest : List ℕ) → OneOf (0 ∷ 1 ∷ 2 ∷ []) (tag_of the_type k) → Stop (WrongKind place) ≡ later_table_kind k l count place rest
@@ -31,46 +32,46 @@ pub returns-then-place-eq-LONGEST_TABLE : goal.returns-then-place-eq-LONGEST_TAB
 returns-then-place-eq-LONGEST_TABLE c = rw (eq-eqb _ _ c.if-place-eq-LONGEST_TABLE.true)
 
 -- Where the function began, seen from where the kind is known.
-abbrev start : After-known-told2 → Start
+abbrev start : In-Known → Start
 start c = c.before.before.before.before.before.before.before
 
 -- The kind of the byte at the place, once it is known, and what the step then is.
-module _ (c : After-known-told2) where
-  known : head_of (get_or (start c).args.bytes.now (start c).args.place 0) (start c).args.place ≡ Known c.kind-1.given.0.0 c.kind-1.given.0.1.0
-  known = sym c.head_of.ensures ∙ c.kind-1.given.1
+module _ (c : In-Known) where
+  known : head_of (get_or (start c).args.bytes.now (start c).args.place 0) (start c).args.place ≡ Known c.in-Known.kind c.in-Known.body
+  known = sym c.head_of.ensures ∙ c.in-Known.is
 
-  step : {kind : Kind} → c.kind-1.given.0.0 ≡ kind
+  step : {kind : Kind} → c.in-Known.kind ≡ kind
       → table_step (start c).args.count (get_or (start c).args.bytes.now (start c).args.place 0) (start c).args.place (drop ((start c).args.place + 1) (start c).args.bytes.now)
-      ≡ later_table_kind kind c.kind-1.given.0.1.0 (start c).args.count (start c).args.place (drop ((start c).args.place + 1) (start c).args.bytes.now)
+      ≡ later_table_kind kind c.in-Known.body (start c).args.count (start c).args.place (drop ((start c).args.place + 1) (start c).args.bytes.now)
   step e =
       let a = (start c).args in
       rw (ne_eqb _ longest_table c.if-place-eq-LONGEST_TABLE.false, known)
-      (ap (λ (k : Kind). later_table_kind k c.kind-1.given.0.1.0 a.count a.place (drop (a.place + 1) a.bytes.now)) e)
+      (ap (λ (k : Kind). later_table_kind k c.in-Known.body a.count a.place (drop (a.place + 1) a.bytes.now)) e)
 
 pub end_step-requires : goal.end_step-requires
 end_step-requires c =
     let a = (start (goal.at.end_step-requires c).In-Known).args in
     record {
       place_in_bounds = search rules;
-      body_value = (head-known (get_or a.bytes.now a.place 0) a.place (known (goal.at.end_step-requires c).In-Known)).1 ∙ ap body_length c.enum_told-in-End-1.given.1;
+      body_value = (head-known (get_or a.bytes.now a.place 0) a.place (known (goal.at.end_step-requires c).In-Known)).1 ∙ ap body_length c.in-End.is;
     }
 
 pub returns-in-Refused : goal.returns-in-Refused
 returns-in-Refused c =
-    rw (ne_eqb _ longest_table c.if-place-eq-LONGEST_TABLE.false, sym c.head_of.ensures ∙ c.fault-1.given.1)
+    rw (ne_eqb _ longest_table c.if-place-eq-LONGEST_TABLE.false, sym c.head_of.ensures ∙ c.in-Refused.is)
 
 pub returns-in-On : goal.returns-in-On
-returns-in-On c = c.body_step.ensures ∙ sym (step (goal.at.returns-in-On c).In-Known c.enum_told-1.given.1)
+returns-in-On c = c.body_step.ensures ∙ sym (step (goal.at.returns-in-On c).In-Known c.in-On.is)
 
 pub returns-in-Free : goal.returns-in-Free
-returns-in-Free c = c.body_step-in-Free.ensures ∙ sym (step (goal.at.returns-in-Free c).In-Known c.enum_told-in-Free-1.given.1)
+returns-in-Free c = c.body_step-in-Free.ensures ∙ sym (step (goal.at.returns-in-Free c).In-Known c.in-Free.is)
 
 pub returns-in-End : goal.returns-in-End
-returns-in-End c = c.End-step.ensures ∙ sym (step (goal.at.returns-in-End c).In-Known c.enum_told-in-End-1.given.1)
+returns-in-End c = c.End-step.ensures ∙ sym (step (goal.at.returns-in-End c).In-Known c.in-End.is)
 
 pub returns-in_default : goal.returns-in_default
 returns-in_default c =
-    let g = c.kind-1.given.0 in
+    let g = c.kind.given.0 in
     let a = (start (goal.at.returns-in_default c).In-Known).args in
     wrong g.0 g.1.0 a.count a.place (drop (a.place + 1) a.bytes.now) c.in-On.keys4 ∙ sym (step (goal.at.returns-in_default c).In-Known refl)
 

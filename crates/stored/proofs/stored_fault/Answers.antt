@@ -8,10 +8,10 @@ use Rattle.records.proofs.Numbers.{none-fault}
 use Rattle.stored.specs.Layout.{walked}
 use Rattle.stored.proofs.Accepting.{stored-layout, stored-points}
 use Rattle.stored.proofs.stored_fault.Goals as goal
-use Rattle.stored.proofs.stored_fault.Goals.{Else-fault-ne0}
+use Rattle.stored.proofs.stored_fault.Goals.{After-layout_fault-fault, Else-fault-ne0}
 
 -- The number and the place are those of what the walk found.
-found : (c : After-layout-fault) → c.layout_fault-fault.result ≡ fault_found (walked c.before.before.before.args.bytes.now)
+found : (c : After-layout_fault-fault) → c.layout_fault-fault.result ≡ fault_found (walked c.args.bytes.now)
 found c = c.layout_fault-fault.ensures ∙ ap fault_found c.walk_table.ensures
 
 pub returns-then-fault-ne0 : goal.returns-then-fault-ne0
@@ -20,7 +20,7 @@ returns-then-fault-ne0 c =
     e ∙ sym (stored-layout c.args.bytes.now (λ z. c.if-fault-ne0.true (ap (λ (f : Fault). f.number) e ∙ z)))
 
 -- Past the test the walk found no fault.
-none : (c : Else-fault-ne0) → fault_number (walked c.before.before.before.before.before.args.bytes.now) ≡ 0
+none : (c : Else-fault-ne0) → fault_number (walked c.args.bytes.now) ≡ 0
 none c = sym (ap (λ (f : Fault). f.number) (found c{-After-layout_fault-fault-})) ∙ c.if-fault-ne0.false
 
 pub points_fault-requires : goal.points_fault-requires

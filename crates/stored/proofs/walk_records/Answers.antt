@@ -10,6 +10,7 @@ use Rattle.records.proofs.Walking.{walk-over, walk_ends, walk-goes}
 use Rattle.stored.specs.Layout.{table_step, count_passed}
 use Rattle.stored.proofs.Walking.{record-whole}
 use Rattle.stored.proofs.walk_records.Goals as goal
+use Rattle.stored.proofs.walk_records.Goals.{In-Whole}
 
 pub loop-place-init : goal.loop-place-init
 loop-place-init c = (search rules, search rules, refl)
@@ -20,25 +21,25 @@ record-step-requires c κs = search rules
 
 pub returns-in-Stop : goal.returns-in-Stop
 returns-in-Stop c =
-    sym (walk_ends table_step count_passed bytes_missing c.args.bytes.now c.loop-place.count c.loop-place.place (omega arith) c.end-1.given.0.0 (sym c.record_step.ensures ∙ c.end-1.given.1)) ∙ c.loop-place.invariant.2
+    sym (walk_ends table_step count_passed bytes_missing c.args.bytes.now c.loop-place.count c.loop-place.place (omega arith) c.in-Stop.end (sym c.record_step.ensures ∙ c.in-Stop.is)) ∙ c.loop-place.invariant.2
 
 -- A whole record at the loop's place: the step that says so, and that its body is there.
-module _ (c : After-known-told2) where
+module _ (c : In-Whole) where
   step :
       table_step
       c.loop-place.count
       (get_or c.args.bytes.now c.loop-place.place 0)
       c.loop-place.place
       (drop (c.loop-place.place + 1) c.args.bytes.now)
-      ≡ Whole c.length-1.given.0.0
-  step = sym c.record_step.ensures ∙ c.length-1.given.1
+      ≡ Whole c.in-Whole.length
+  step = sym c.record_step.ensures ∙ c.in-Whole.is
 
-  body : c.length-1.given.0.0 ≤ length (drop (c.loop-place.place + 1) c.args.bytes.now)
+  body : c.in-Whole.length ≤ length (drop (c.loop-place.place + 1) c.args.bytes.now)
   body =
       let s = c.args.bytes.now in
-      record-whole c.loop-place.count (get_or s c.loop-place.place 0) c.loop-place.place (drop (c.loop-place.place + 1) s) c.length-1.given.0.0 step
+      record-whole c.loop-place.count (get_or s c.loop-place.place 0) c.loop-place.place (drop (c.loop-place.place + 1) s) c.in-Whole.length step
 
-  there : c.loop-place.place + 1 + c.length-1.given.0.0 ≤ length c.args.bytes.now
+  there : c.loop-place.place + 1 + c.in-Whole.length ≤ length c.args.bytes.now
   there =
       omega (arith, body, length-drop (c.loop-place.place + 1) c.args.bytes.now)
 
@@ -56,7 +57,7 @@ loop-place-preserved c =
 (
       there c,
       omega arith,
-      sym (walk-goes table_step count_passed bytes_missing c.args.bytes.now c.loop-place.count c.loop-place.place (omega arith) c.length-1.given.0.0 (body c) (step c))
+      sym (walk-goes table_step count_passed bytes_missing c.args.bytes.now c.loop-place.count c.loop-place.place (omega arith) c.in-Whole.length (body c) (step c))
           ∙ c.loop-place.invariant.2,
     )
 

@@ -7,23 +7,24 @@ use Rattle.records.specs.declared.Step.TheVariants.{Whole}
 use Rattle.stored.specs.Layout.{first_table_step}
 use Rattle.stored.proofs.Walking.{walk_none, first-whole, first_ends, first_goes}
 use Rattle.stored.proofs.walk_table.Goals as goal
+use Rattle.stored.proofs.walk_table.Goals.{In-Whole}
 
 pub returns-then-bytes-eq0 : goal.returns-then-bytes-eq0
 returns-then-bytes-eq0 c = sym (walk_none c.args.bytes.now c.if-bytes-eq0.true)
 
 -- The first record is whole: the step that says so, and that its body is there.
-module _ (c : After-known-told2) where
+module _ (c : In-Whole) where
   step :
       first_table_step
       (get_or c.args.bytes.now 0 0)
       (drop 1 c.args.bytes.now)
-      ≡ Whole c.length-1.given.0.0
-  step = sym c.first_step.ensures ∙ c.length-1.given.1
+      ≡ Whole c.in-Whole.length
+  step = sym c.first_step.ensures ∙ c.in-Whole.is
 
-  there : 1 + c.length-1.given.0.0 ≤ length c.args.bytes.now
+  there : 1 + c.in-Whole.length ≤ length c.args.bytes.now
   there =
       let s = c.args.bytes.now in
-      omega (arith, first-whole (get_or s 0 0) (drop 1 s) c.length-1.given.0.0 step, length-drop 1 s)
+      omega (arith, first-whole (get_or s 0 0) (drop 1 s) c.in-Whole.length step, length-drop 1 s)
 
 pub overflow_add-length : goal.overflow_add-length
 overflow_add-length c = omega (arith, there c)
@@ -33,9 +34,9 @@ walk_records-requires c = there c
 
 pub returns-in-Stop : goal.returns-in-Stop
 returns-in-Stop c =
-    sym (first_ends c.args.bytes.now c.end-1.given.0.0 (omega arith) (sym c.first_step.ensures ∙ c.end-1.given.1))
+    sym (first_ends c.args.bytes.now c.in-Stop.end (omega arith) (sym c.first_step.ensures ∙ c.in-Stop.is))
 
 pub returns-in-Whole : goal.returns-in-Whole
 returns-in-Whole c =
     let a = c.args in
-    c.walk_records.ensures ∙ sym (first_goes a.bytes.now c.length-1.given.0.0 (omega arith) (step (goal.at.returns-in-Whole c).In-Whole))
+    c.walk_records.ensures ∙ sym (first_goes a.bytes.now c.in-Whole.length (omega arith) (step (goal.at.returns-in-Whole c).In-Whole))

@@ -8,6 +8,7 @@ use lib.ListN.{length, get_or-map}
 use Rattle.stored.specs.Marks.{Mark, no_mark, marks}
 use Rattle.stored.proofs.Points.{none_written, all-written, room-left, written-more, written_same}
 use Rattle.stored.proofs.write_points.Goals as goal
+use Rattle.stored.proofs.write_points.Goals.{After-point_at}
 
 record-count-requires : Need-record-count-requires invariant-loop decreases-loop
 
@@ -25,7 +26,7 @@ pub point_at-requires : goal.point_at-requires
 point_at-requires c = record { laid_out = search rules; i_in_bounds = omega arith }
 
 -- The record is to be written, so there is room for it.
-fits : (c : After-point-at) → c.before.before.before.before.loop-i.at < length c.before.before.before.before.before.before.before.before.args.room.now
+fits : (c : After-point_at) → c.loop-i.at < length c.args.room.now
 fits c =
     let a = c.args in
     room-left a.on (marks a.bytes.now) a.room.now c.loop-i.i c.loop-i.at c.loop-i.room (omega arith) c.loop-i.invariant.2 c.requires.bytes_in_bounds (sym c.is_marked.ensures ∙ c.if-is_marked.true)

@@ -41,7 +41,10 @@ module _ (set moved closed after found : List ℕ) (b : ℕ) (l : length closed 
 
 pub following-after-requires : goal.following-after-requires
 following-after-requires c =
-    (c.requires.words_value, omega (arith, c.lead.ensures, lead-fits set_variables c.args.b c.requires.b_nonzero.0 c.requires.b_nonzero.1))
+    record {
+      words_value = c.requires.words_value;
+      place_lt_set_variables = omega (arith, c.lead.ensures, lead-fits set_variables c.args.b c.requires.b_nonzero.0 c.requires.b_nonzero.1);
+    }
 
 pub returns : goal.returns
 returns c =

@@ -10,7 +10,7 @@ use Rattle.subspace_search.proofs.reach.Goals as goal
 use Rattle.subspace_search.proofs.reach.Goals.{After-lead}
 
 -- The lead of the least vector, which is one of n variables.
-fits : (c : After-lead) → lead c.before.before.before.least_from-k.result < c.before.before.before.before.args.n
+fits : (c : After-lead) → lead c.least_from-k.result < c.args.n
 fits c =
     lead-fits c.args.n c.least_from-k.result (omega (arith, c.least_from-k.ensures.above))
     (omega (arith, c.if-k-point_count.true, c.point_count.ensures))

@@ -24,10 +24,10 @@ module _ (c : After-canonical-canonical) where
   found = c.canonical-canonical.ensures
 
 pub slice_bounds-numbers_line-end-2 : goal.slice_bounds-numbers_line-end-2
-slice_bounds-numbers_line-end-2 c =short-fits c.canonical-canonical.result (variables (goal.at.slice_bounds-numbers_line-end-2 c).After-canonical-canonical) (found (goal.at.slice_bounds-numbers_line-end-2 c).After-canonical-canonical)
+slice_bounds-numbers_line-end-2 c = short-fits c.canonical-canonical.result (variables (goal.at.slice_bounds-numbers_line-end-2 c).After-canonical-canonical) (found (goal.at.slice_bounds-numbers_line-end-2 c).After-canonical-canonical)
 
 -- Where they were found, from the station that writes them.
-abbrev written : After-numbers-line-arg3 → After-canonical-canonical
+abbrev written : After-numbers_line-arg-3-1 → After-canonical-canonical
 written c = c.before.before.before.before.before
 
 pub numbers_line-requires : goal.numbers_line-requires

@@ -8,6 +8,7 @@ use Rattle.lines.specs.Lines.{product_line}
 use Rattle.cover.specs.WrittenForm.{product_by}
 use Rattle.table_report.proofs.Parts.{choice-pieces}
 use Rattle.table_report.proofs.choice_text.Goals as goal
+use Rattle.table_report.proofs.choice_text.Goals.{After-chosen_line-arg-1}
 
 pub loop-i-init : goal.loop-i-init
 loop-i-init c = (omega arith, wrote_none _ _)
@@ -16,8 +17,8 @@ loop-i-init c = (omega arith, wrote_none _ _)
 abbrev start : At-loop-i invariant-loop decreases-loop → Start invariant-loop decreases-loop
 start c = c.before.before.before.before.before
 
-few : (c : After-chosen-line-arg) → (start c.before.before).args.choice.count ≤ max_chosen
-few c = (start c).pre.1.1.0.few
+few : (c : After-chosen_line-arg-1) → (start c{-At-loop-i-}).args.choice.count ≤ max_chosen
+few c = (start c{-At-loop-i-}).pre.1.1.0.few
 
 pub bounds-degrees-i : goal.bounds-degrees-i
 bounds-degrees-i c = omega (arith, few c)

@@ -11,15 +11,16 @@ use Rattle.factors.specs.Factors.{factors_of}
 use Rattle.cover.specs.WrittenForm.{product_by}
 use Rattle.table_report.proofs.Parts.{constants-fit, masks-fit, product-same, product-zip}
 use Rattle.table_report.proofs.chosen_line.Goals as goal
+use Rattle.table_report.proofs.chosen_line.Goals.{After-product_of-product}
 
 pub product_of-product-requires : goal.product_of-product-requires
 product_of-product-requires c =
     (c.requires.equations_value.0, (c.requires.equations_value.1.0.few, entry-candidate c.requires.equations_value.1.0))
 
 -- The product is found: it is that of the prime.
-module _ (c : After-product-of) where
+module _ (c : After-product_of-product) where
   abbrev start : Start
-  start = c
+  start = c{-Start-}
 
   abbrev product : List Factor
   product = let a = start.args in product_by (listed a.equations) a.m (candidate_at a.d a.point a.entry)
@@ -28,13 +29,13 @@ module _ (c : After-product-of) where
   found = c.product_of-product.ensures
 
 -- Where it was found, from the two stations that lend its lists, and from the one that writes its line.
-abbrev lent : After-parities2 → After-product-of
+abbrev lent : After-parities2 → After-product_of-product
 lent c = c.before.before.before.before.before.before
 
-abbrev lent_both : After-variables2 → After-product-of
+abbrev lent_both : After-variables2 → After-product_of-product
 lent_both c = lent c.before.before
 
-abbrev written : After-product-line-arg3 → After-product-of
+abbrev written : After-product_line-arg-3-1 → After-product_of-product
 written c = lent_both c.before
 
 pub slice_bounds-product_line-end : goal.slice_bounds-product_line-end

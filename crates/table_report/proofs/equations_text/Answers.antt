@@ -23,10 +23,10 @@ module _ (c : After-equations-equations) where
   found = c.equations-equations.ensures
 
 pub slice_bounds-equation_lines-end : goal.slice_bounds-equation_lines-end
-slice_bounds-equation_lines-end c =short-fits c.equations-equations.result (masks (goal.at.slice_bounds-equation_lines-end c).After-slice_known-1) (found (goal.at.slice_bounds-equation_lines-end c).After-slice_known-1)
+slice_bounds-equation_lines-end c = short-fits c.equations-equations.result (masks (goal.at.slice_bounds-equation_lines-end c).After-slice_known-1) (found (goal.at.slice_bounds-equation_lines-end c).After-slice_known-1)
 
 -- Where they were found, from the station that writes them.
-abbrev written : After-equation-lines-arg2 → After-equations-equations
+abbrev written : After-equation_lines-arg-2-1 → After-equations-equations
 written c = c.before.before.before.before
 
 pub equation_lines-requires : goal.equation_lines-requires

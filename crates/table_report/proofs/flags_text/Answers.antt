@@ -15,15 +15,16 @@ use Rattle.text.proofs.Writing.{room-same, wrote-same}
 use Rattle.table_report.specs.Parts.{function_text, Restricts}
 use Rattle.table_report.proofs.Parts.{restricts, kept-few}
 use Rattle.table_report.proofs.flags_text.Goals as goal
+use Rattle.table_report.proofs.flags_text.Goals.{After-write_kept}
 
 pub write_kept-requires : goal.write_kept-requires
 write_kept-requires c =
     record { n_le_max_variables = c.requires.basis_within.few; flags_in_bounds = kept-few c.requires.basis_within (flagged c.args.flags.now) c.leads-leads.result }
 
 -- The points that the lead mask keeps are written at the front of the array: they fit, and they are those of the restriction.
-module _ (c : After-write-kept) where
+module _ (c : After-write_kept) where
   abbrev start : Start
-  start = c
+  start = c{-Start-}
 
   abbrev mask : ℕ
   mask = c.leads-leads.result
@@ -48,7 +49,7 @@ module _ (c : After-write-kept) where
       ∙ points_kept start.pre.0 f mask c.leads-leads.ensures
 
 -- Where they were written, from the station that writes their text.
-abbrev points-written : After-function-text-arg2 → After-write-kept
+abbrev points-written : After-function_text-arg-2-1 → After-write_kept
 points-written c = c.before.before.before.before
 
 pub slice_bounds-function_text-end : goal.slice_bounds-function_text-end

@@ -17,7 +17,7 @@ pub overflow_sub-m : goal.overflow_sub-m
 overflow_sub-m c = spans-few c.requires.restricts.spans
 
 -- Where the call began, from the test of the number of variables.
-abbrev start : After-struct-known → Start
+abbrev start : After-struct_known-1 → Start
 start c = c.before.before.before
 
 pub number_line-requires : goal.number_line-requires

@@ -9,7 +9,10 @@ pub space_text-next-requires : goal.space_text-next-requires
 unfolding function_text
 space_text-next-requires c =
     let a = c.args in
-    (c.requires.restricts.spans, room-first (space_text a.n a.simple (vectors_of a.basis) a.points.now) (form_lines a.n (vectors_of a.basis) a.points.now) c.requires.has_room)
+    record {
+      basis_within = c.requires.restricts.spans;
+      has_room = room-first (space_text a.n a.simple (vectors_of a.basis) a.points.now) (form_lines a.n (vectors_of a.basis) a.points.now) c.requires.has_room;
+    }
 
 pub form_lines-requires : goal.form_lines-requires
 unfolding function_text

@@ -7,6 +7,7 @@ use Rattle.text.proofs.Writing.{room-same, room-first, room-second, room-third, 
 use Rattle.lines.specs.Lines.{degree_line}
 use Rattle.table_report.specs.Text.{space_text}
 use Rattle.table_report.proofs.space_text.Goals as goal
+use Rattle.table_report.proofs.space_text.Goals.{After-degree_line-next}
 
 pub degree_line-next-requires : goal.degree_line-next-requires
 unfolding space_text
@@ -15,30 +16,33 @@ degree_line-next-requires c =
     room-same (ap (degree_line a.simple) (sym c.degree.ensures)) (room-first (degree_line a.simple (length (vectors_of a.basis))) _ c.requires.has_room)
 
 -- The stations: where the call began, from its first line, and each line from the next.
-abbrev start : After-degree-line → Start
+abbrev start : After-degree_line-next → Start
 start c = c.before.before.before.before.before
 
-abbrev degree-written : After-canonical-line → After-degree-line
+abbrev degree-written : After-canonical_line-middle → After-degree_line-next
 degree-written c = c.before.before.before.before
 
-abbrev canonical-written : After-equations-text → After-canonical-line
+abbrev canonical-written : After-equations_text-last → After-canonical_line-middle
 canonical-written c = c.before.before.before.before
 
 -- The line of the degree as it was written, and the room behind it.
-degree-there : (c : After-degree-line) → let a = (start c).args in
-    Wrote a.room-1.now a.at (degree_line a.simple (length (vectors_of a.basis))) c.degree_line-next.new.0 c.degree_line-next.result
+degree-there : (c : After-degree_line-next) → let a = (start c).args in
+    Wrote a.room.now a.at (degree_line a.simple (length (vectors_of a.basis))) c.degree_line-next.new.0 c.degree_line-next.result
 degree-there c = wrote-same (ap (degree_line (start c).args.simple) c.degree.ensures) c.degree_line-next.ensures
 
 pub canonical_line-middle-requires : goal.canonical_line-middle-requires
 unfolding space_text
 canonical_line-middle-requires c =
-    ((start (goal.at.canonical_line-middle-requires c).After-degree_line-next).requires.0, room-second _ _ (start (goal.at.canonical_line-middle-requires c).After-degree_line-next).requires.1 (degree-there (goal.at.canonical_line-middle-requires c).After-degree_line-next))
+    record {
+      basis_within = (start (goal.at.canonical_line-middle-requires c).After-degree_line-next).requires.0;
+      has_room = room-second _ _ (start (goal.at.canonical_line-middle-requires c).After-degree_line-next).requires.1 (degree-there (goal.at.canonical_line-middle-requires c).After-degree_line-next);
+    }
 
 pub equations_text-last-requires : goal.equations_text-last-requires
 unfolding space_text
 equations_text-last-requires c =
     let d = degree-written (goal.at.equations_text-last-requires c).After-canonical_line-middle in
-    ((start d).pre.0, room-second _ _ (room-then _ (start d).pre.1 (degree-there d)) c.canonical_line-middle.ensures)
+    record { basis_within = (start d).pre.0; has_room = room-second _ _ (room-then _ (start d).pre.1 (degree-there d)) c.canonical_line-middle.ensures }
 
 pub numbers_line-requires : goal.numbers_line-requires
 unfolding space_text

@@ -18,7 +18,7 @@ use Rattle.table_report.proofs.table_text.Goals.{Start}
 
 -- Room for the parts of the report.
 parts : (c : Start) → let a = c.args in
-    HasRoom a.room-1.now a.at (number_line variables_word a.n ++ (counts_line (length a.on.now) (length a.free.now)
+    HasRoom a.room.now a.at (number_line variables_word a.n ++ (counts_line (length a.on.now) (length a.free.now)
     ++ function_text a.n (is_simple a.n a.free.now) (linear_space a.n (completed a.n a.on.now a.free.now)) (restriction a.n (linear_space a.n (completed a.n a.on.now a.free.now)) (completed a.n a.on.now a.free.now))))
 parts c = room-same (table-parts c.args.n c.args.on.now c.args.free.now) c.requires.has_room
 
@@ -27,13 +27,13 @@ number_line-next-requires c = let room = parts (goal.at.number_line-next-require
 
 -- The stations: where the call began, from its first line; its first line, from its second; its second, from the test for the mark, which stands before
 -- the completed table.
-abbrev start : After-number-line → Start
+abbrev start : After-number_line-next → Start
 start c = c.before.before.before.before.before.before
 
-abbrev number-written : After-counts-line → After-number-line
+abbrev number-written : After-counts_line-rest → After-number_line-next
 number-written c = c.before.before.before.before
 
-abbrev counts-written : After-is-simple → After-counts-line
+abbrev counts-written : After-is_simple-simple → After-counts_line-rest
 counts-written c = c.before.before.before
 
 pub counts_line-rest-requires : goal.counts_line-rest-requires

@@ -23,13 +23,13 @@ pub stop_of-end-requires : goal.stop_of-end-requires
 stop_of-end-requires c = c.requires.n_le_max_listed.1.0
 
 pub avoided-avoided-requires : goal.avoided-avoided-requires
-avoided-avoided-requires c =(c.requires.n_le_max_listed.0, c.requires.n_le_max_listed.1.1.0)
+avoided-avoided-requires c = record { n_le_max_listed = c.requires.n_le_max_listed.0; p_bound = c.requires.n_le_max_listed.1.1.0 }
 
 pub loop-at-init : goal.loop-at-init
-loop-at-init c =(omega arith, omega (arith, c.requires.n_le_max_listed.1.1.1.1, c.stop_of-end.ensures), λ rest. refl)
+loop-at-init c = (omega arith, omega (arith, c.requires.n_le_max_listed.1.1.1.1, c.stop_of-end.ensures), λ rest. refl)
 
 -- The entry at the place is one of d vectors, and of the table.
-within : (c : In-loop-at) → (c.before.loop-at.at < stop c.before.before.before.before.args.d) × (stop c.before.before.before.before.args.d ≤ entry_count)
+within : (c : In-loop-at) → (c.loop-at.at < stop c.args.d) × (stop c.args.d ≤ entry_count)
 within c =
     (omega (arith, c.loop-at-test.true, c.stop_of-end.ensures), (bounds c.args.d c.requires.n_le_max_listed.1.0).1)
 

@@ -20,24 +20,24 @@ use Rattle.walk.proofs.pass.Goals as goal
 pub returns-then-tally-eq0 : goal.returns-then-tally-eq0
 returns-then-tally-eq0 c =
     let a = c.args in
-    ap (λ (t : Tally). state t a.room-1.now) c.stopping.ensures
-    ∙ pass_spent (prime_by a.n a.on a.free) (record_by a.n a.on) (candidate_at a.d a.p a.entry) a.tally a.room-1.now c.if-tally-eq0.true
+    ap (λ (t : Tally). state t a.room.now) c.stopping.ensures
+    ∙ pass_spent (prime_by a.n a.on a.free) (record_by a.n a.on) (candidate_at a.d a.p a.entry) a.tally a.room.now c.if-tally-eq0.true
 
 pub count_in_prime-count-requires : goal.count_in_prime-count-requires
-count_in_prime-count-requires c =(c.requires.of_points, (c.requires.of_points_2.0, c.requires.of_points_2.1.0))
+count_in_prime-count-requires c = (c.requires.of_points, (c.requires.of_points_2.0, c.requires.of_points_2.1.0))
 
 pub returns-then-count-eq0 : goal.returns-then-count-eq0
 returns-then-count-eq0 c =
     let a = c.args in
-    ap (λ (t : Tally). state t a.room-1.now) c.passing.ensures
-    ∙ pass-off (prime_by a.n a.on a.free) (record_by a.n a.on) (candidate_at a.d a.p a.entry) a.tally a.room-1.now c.if-tally-eq0.false
+    ap (λ (t : Tally). state t a.room.now) c.passing.ensures
+    ∙ pass-off (prime_by a.n a.on a.free) (record_by a.n a.on) (candidate_at a.d a.p a.entry) a.tally a.room.now c.if-tally-eq0.false
     (count_none a.on a.free c.requires.of_points_2.1.0 c.count_in_prime-count.result c.count_in_prime-count.ensures c.if-count-eq0.true)
 
 pub returns-then-room-written-lt-RECORD_LENGTH : goal.returns-then-room-written-lt-RECORD_LENGTH
 returns-then-room-written-lt-RECORD_LENGTH c =
     let a = c.args in
-    ap (λ (t : Tally). state t a.room-1.now) c.stopping-then-room-written-lt-RECORD_LENGTH.ensures
-    ∙ pass-full (prime_by a.n a.on a.free) (record_by a.n a.on) (candidate_at a.d a.p a.entry) a.tally a.room-1.now c.if-tally-eq0.false
+    ap (λ (t : Tally). state t a.room.now) c.stopping-then-room-written-lt-RECORD_LENGTH.ensures
+    ∙ pass-full (prime_by a.n a.on a.free) (record_by a.n a.on) (candidate_at a.d a.p a.entry) a.tally a.room.now c.if-tally-eq0.false
     (count-some a.on a.free c.requires.of_points_2.1.0 c.count_in_prime-count.result c.count_in_prime-count.ensures c.if-count-eq0.false) (omega (arith, c.if-room-written-lt-RECORD_LENGTH.true))
 
 pub put-requires : goal.put-requires
@@ -60,7 +60,7 @@ writing-requires c =
 pub shape_of-room : goal.shape_of-room
 shape_of-room c =
     let a = c.args in
-    ap length c.put.ensures ∙ length-sets a.room-1.now (record_length * a.tally.written) ((a.d ∷ a.p ∷ vectors_of 6 a.entry) ++ (c.count_in_prime-count.result ∷ []))
+    ap length c.put.ensures ∙ length-sets a.room.now (record_length * a.tally.written) ((a.d ∷ a.p ∷ vectors_of 6 a.entry) ++ (c.count_in_prime-count.result ∷ []))
 
 pub returns : goal.returns
 returns c =
@@ -68,6 +68,6 @@ returns c =
     let k = c.requires.of_points_2.1.0 in
     let some = c.if-count-eq0.false in
     ap₂ state c.writing.ensures
-    (c.put.ensures ∙ ap (sets a.room-1.now (record_length * a.tally.written)) (count-record a.on a.free k c.count_in_prime-count.result c.count_in_prime-count.ensures some))
-    ∙ pass-write (prime_by a.n a.on a.free) (record_by a.n a.on) (candidate_at a.d a.p a.entry) a.tally a.room-1.now c.if-tally-eq0.false
+    (c.put.ensures ∙ ap (sets a.room.now (record_length * a.tally.written)) (count-record a.on a.free k c.count_in_prime-count.result c.count_in_prime-count.ensures some))
+    ∙ pass-write (prime_by a.n a.on a.free) (record_by a.n a.on) (candidate_at a.d a.p a.entry) a.tally a.room.now c.if-tally-eq0.false
     (count-some a.on a.free k c.count_in_prime-count.result c.count_in_prime-count.ensures some) (omega (arith, c.if-room-written-lt-RECORD_LENGTH.false))

@@ -11,15 +11,15 @@ use Rattle.walk.specs.Places.{FirstTaken}
 use Rattle.walk.specs.Walk.{starting}
 use Rattle.walk.proofs.Stand.{stand-start, six, last, small, entry-stands, passed-kept, to-entry, at-stop, to-point, at-end, to-degree}
 use Rattle.walk.proofs.walk.Goals as goal
-use Rattle.walk.proofs.walk.Goals.{Else-at-stop_of, Then-at-stop_of}
+use Rattle.walk.proofs.walk.Goals.{After-stop_of, Else-at-stop_of, Then-at-stop_of}
 
 pub start_of-i-requires : goal.start_of-i-requires
-start_of-i-requires c =omega (arith, c.requires.of_points_2.1.0, c.requires.of_points_2.1.1.0)
+start_of-i-requires c = omega (arith, c.requires.of_points_2.1.0, c.requires.of_points_2.1.1.0)
 
 pub loop-entry-init : goal.loop-entry-init
 loop-entry-init c =
     let a = c.args in
-    stand-start a.n a.on a.free a.degree a.point a.skip c.start_of_lem.result (starting a.allowance) a.room-1.now c.requires.of_points_2.1.0 c.requires.of_points_2.1.1.0 c.requires.of_points_2.1.1.1
+    stand-start a.n a.on a.free a.degree a.point a.skip c.start_of_lem.result (starting a.allowance) a.room.now c.requires.of_points_2.1.0 c.requires.of_points_2.1.1.0 c.requires.of_points_2.1.1.1
     c.start_of_lem.ensures refl
 
 pub first_taken-found-requires : goal.first_taken-found-requires
@@ -29,14 +29,14 @@ pub stop_of-requires : goal.stop_of-requires
 stop_of-requires c = six c.loop-entry.invariant
 
 -- The first entry taken, whether it is one, and that it is the table's.
-found : (c : After-stop-of)
+found : (c : After-stop_of)
     →FirstTaken c.args.n c.loop-entry.d c.loop-entry.p c.loop-entry.i c.loop-entry.skip c.first_taken-found.result
 found c = c.first_taken-found.ensures
 
-within : (c : Then-at-stop_of) → c.before.before.first_taken-found.result.at < stop c.before.before.before.before.loop-entry.d
+within : (c : Then-at-stop_of) → c.first_taken-found.result.at < stop c.loop-entry.d
 within c = omega (arith, c.if-at-stop_of.true, c.stop_of.ensures)
 
-beyond : (c : Else-at-stop_of) → stop c.before.before.before.before.loop-entry.d ≤ c.before.before.first_taken-found.result.at
+beyond : (c : Else-at-stop_of) → stop c.loop-entry.d ≤ c.first_taken-found.result.at
 beyond c = omega (arith, c.if-at-stop_of.false, c.stop_of.ensures)
 
 own : (c : Then-at-stop_of)
@@ -63,7 +63,7 @@ returns-then-tally c =
     at-stop c.loop-entry.invariant (found (goal.at.returns-then-tally c).After-stop_of) (within (goal.at.returns-then-tally c).Then-at-stop_of) (own (goal.at.returns-then-tally c).Then-at-stop_of) c.pass-tally.ensures c.if-tally.true
 
 pub overflow_add-i : goal.overflow_add-i
-overflow_add-i c =omega (arith, within (goal.at.overflow_add-i c).Then-at-stop_of, last c.loop-entry.invariant)
+overflow_add-i c = omega (arith, within (goal.at.overflow_add-i c).Then-at-stop_of, last c.loop-entry.invariant)
 
 pub loop-entry-smaller-then-at-stop_of : goal.loop-entry-smaller-then-at-stop_of
 loop-entry-smaller-then-at-stop_of c =

@@ -6,18 +6,18 @@ use Rattle.walsh.proofs.Crossing.{halving-start, halving-crossable, halving-next
 use Rattle.walsh.proofs.cross_halves.Goals as goal
 
 pub loop-u-init : goal.loop-u-init
-loop-u-init c = (omega arith, halving-start c.args.half c.args.numbers-1.now)
+loop-u-init c = (omega arith, halving-start c.args.half c.args.numbers.now)
 
 pub cross_pair-requires : goal.cross_pair-requires
 cross_pair-requires c =
     let loop = c.loop-u in
-    halving-crossable c.args.half c.args.numbers-1.now c.requires.numbers_len loop.u loop.numbers-1 c.loop-u-test.true loop.invariant.1
+    halving-crossable c.args.half c.args.numbers.now c.requires.numbers_len loop.u loop.numbers c.loop-u-test.true loop.invariant.1
     c.requires.summable
 
 pub loop-u-preserved : goal.loop-u-preserved
 loop-u-preserved c =
     let loop = c.loop-u in
-    let next = halving-next c.args.half c.args.numbers-1.now c.requires.numbers_len loop.u loop.numbers-1 (omega arith) loop.invariant.1 in
+    let next = halving-next c.args.half c.args.numbers.now c.requires.numbers_len loop.u loop.numbers (omega arith) loop.invariant.1 in
     (omega arith, rw c.cross_pair.ensures next)
 
 pub shape_of-numbers : goal.shape_of-numbers

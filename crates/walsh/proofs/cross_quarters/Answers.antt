@@ -6,18 +6,18 @@ use Rattle.walsh.proofs.Crossing.{quartering-start, quartering-crossable, quarte
 use Rattle.walsh.proofs.cross_quarters.Goals as goal
 
 pub loop-u-init : goal.loop-u-init
-loop-u-init c = (omega arith, quartering-start c.args.quarter c.args.numbers-1.now)
+loop-u-init c = (omega arith, quartering-start c.args.quarter c.args.numbers.now)
 
 pub cross_four-requires : goal.cross_four-requires
 cross_four-requires c =
     let loop = c.loop-u in
-    quartering-crossable c.args.quarter c.args.numbers-1.now c.requires.numbers_len loop.u loop.numbers-1 c.loop-u-test.true loop.invariant.1
+    quartering-crossable c.args.quarter c.args.numbers.now c.requires.numbers_len loop.u loop.numbers c.loop-u-test.true loop.invariant.1
     c.requires.summable
 
 pub loop-u-preserved : goal.loop-u-preserved
 loop-u-preserved c =
     let loop = c.loop-u in
-    let next = quartering-next c.args.quarter c.args.numbers-1.now c.requires.numbers_len loop.u loop.numbers-1 (omega arith) loop.invariant.1 in
+    let next = quartering-next c.args.quarter c.args.numbers.now c.requires.numbers_len loop.u loop.numbers (omega arith) loop.invariant.1 in
     (omega arith, rw c.cross_four.ensures next)
 
 pub shape_of-numbers : goal.shape_of-numbers

@@ -13,15 +13,15 @@ pub overflow_mul-block : goal.overflow_mul-block
 overflow_mul-block c = omega (arith, c.requires.one, c.well-formed.0.1)
 
 pub loop-start-init : goal.loop-start-init
-loop-start-init c = passing-start c.args.quarter c.args.numbers-1.now
+loop-start-init c = passing-start c.args.quarter c.args.numbers.now
 
 -- In the loop: the block that begins ends inside the list.
 room : (c : lts.In-loop (cross-quarters-reads.Asked, cross-quarters-reads.Learnt) reads.Pre reads.Post invariant-loop decreases-loop)
-    → c.before.loop-start.start + 4 * c.before.before.args.quarter ≤ length c.before.loop-start.numbers-1
+    → c.before.loop-start.start + 4 * c.before.before.args.quarter ≤ length c.before.loop-start.numbers
 room c =
     let start = c.before.before in
     let loop = c.before.loop-start in
-    passing-room start.args.quarter start.args.numbers-1.now start.requires loop.start loop.numbers-1 c.loop-start-test.true loop.invariant
+    passing-room start.args.quarter start.args.numbers.now start.requires loop.start loop.numbers c.loop-start-test.true loop.invariant
 
 pub overflow_add-end : goal.overflow_add-end
 overflow_add-end c = omega (arith, room c, c.loop-start.invariant.long, c.well-formed.0.1)
@@ -36,9 +36,9 @@ pub cross_quarters-requires : goal.cross_quarters-requires
 cross_quarters-requires c =
     let loop = c.loop-start in
     let q = c.args.quarter in
-    let xs = c.args.numbers-1.now in record {
-      numbers_len = passing-long q xs c.requires loop.start loop.numbers-1 c.loop-start-test.true loop.invariant;
-      summable = passing-small q xs c.requires loop.start loop.numbers-1 c.loop-start-test.true loop.invariant;
+    let xs = c.args.numbers.now in record {
+      numbers_len = passing-long q xs c.requires loop.start loop.numbers c.loop-start-test.true loop.invariant;
+      summable = passing-small q xs c.requires loop.start loop.numbers c.loop-start-test.true loop.invariant;
     }
 
 pub loop-start-smaller : goal.loop-start-smaller
@@ -49,7 +49,7 @@ loop-start-smaller c =
 pub loop-start-preserved : goal.loop-start-preserved
 loop-start-preserved c =
     let loop = c.loop-start in
-    passing-next c.args.quarter c.args.numbers-1.now c.requires loop.start loop.numbers-1 c.loop-start-test.true loop.invariant
+    passing-next c.args.quarter c.args.numbers.now c.requires loop.start loop.numbers c.loop-start-test.true loop.invariant
     c.cross_quarters.new.0 c.cross_quarters.ensures
 
 pub shape_of-numbers : goal.shape_of-numbers
@@ -58,4 +58,4 @@ shape_of-numbers c = c.loop-start.invariant.long
 pub returns : goal.returns
 returns c =
     let loop = c.loop-start in
-    passing-end c.args.quarter c.args.numbers-1.now loop.start loop.numbers-1 c.loop-start-test.false loop.invariant
+    passing-end c.args.quarter c.args.numbers.now loop.start loop.numbers c.loop-start-test.false loop.invariant

@@ -15,21 +15,21 @@ loop-block-init c = λ xs t. t
 pub pass-requires : goal.pass-requires
 pass-requires c =
     let loop = c.loop-block in
-    let xs = c.args.numbers-1.now in
-    blocks-asked c.args.n xs loop.block loop.numbers-1 c.loop-block-test.true (loop.invariant xs c.first_pass-block.ensures)
+    let xs = c.args.numbers.now in
+    blocks-asked c.args.n xs loop.block loop.numbers c.loop-block-test.true (loop.invariant xs c.first_pass-block.ensures)
 
 pub loop-block-preserved : goal.loop-block-preserved
 loop-block-preserved c =
     let loop = c.loop-block in
-    λ xs t. blocks-next c.args.n xs loop.block loop.numbers-1 c.loop-block-test.true (loop.invariant xs t) c.pass.new.0
+    λ xs t. blocks-next c.args.n xs loop.block loop.numbers c.loop-block-test.true (loop.invariant xs t) c.pass.new.0
     c.pass.ensures
 
 -- Past the loop: a block is one number.
-ended : (c : After-loop-block) → Transformed c.before.before.before.before.before.args.n c.before.before.before.before.before.args.numbers-1.now c.before.loop-block.numbers-1
+ended : (c : After-loop-block) → Transformed c.args.n c.args.numbers.now c.loop-block.numbers
 ended c =
     let loop = c.loop-block in
-    let xs = c.args.numbers-1.now in
-    blocks_end c.args.n xs loop.block loop.numbers-1 c.loop-block-test.false (loop.invariant xs c.first_pass-block.ensures)
+    let xs = c.args.numbers.now in
+    blocks_end c.args.n xs loop.block loop.numbers c.loop-block-test.false (loop.invariant xs c.first_pass-block.ensures)
 
 pub shape_of-numbers : goal.shape_of-numbers
 shape_of-numbers c = (ended c).long ∙ sym c.requires.long

@@ -19,6 +19,7 @@ use Rattle.projection.proofs.Restrictions.{spans-few, points_kept, points-few, p
 use Rattle.cubes.specs.Records.{max_listed}
 use Rattle.choice.specs.Chosen.{max_chosen, Chose}
 use Rattle.writing.proofs.choose_restriction.Goals as goal
+use Rattle.writing.proofs.choose_restriction.Goals.{After-write_kept}
 
 -- The points kept are those of the restriction, and fit the array; the part of it that is lent on is these.
 module _ (n : ℕ) (b : Basis) (k : BasisWithin n b) (few : n - b.len ≤ max_listed) (f : ℕ → Bool) (leads : ℕ) (e : leads ≡ lead_mask (vectors_of b)) where
@@ -37,15 +38,15 @@ write_kept-requires c =
     }
 
 pub overflow_sub-n : goal.overflow_sub-n
-overflow_sub-n c =spans-few c.requires.basis_within
+overflow_sub-n c = spans-few c.requires.basis_within
 
 -- The points are written at the front of the array: those of the restriction.
-module _ (c : After-write-kept) where
+module _ (c : After-write_kept) where
   abbrev start : Start
-  start = c
+  start = c{-Start-}
 
   abbrev mask : After-leads-leads
-  mask = c
+  mask = c{-After-leads-leads-}
 
   abbrev count : ℕ
   count = c.count_kept-count.result

@@ -21,26 +21,26 @@ use Rattle.writing.proofs.put_product.Goals.{At-loop-i}
 -- The factors as the loop has them, one more of them written, and all.
 module _ (r : FactorList) (k : IsProduct r) where
   abbrev pairs : List Factor
-  pairs = zip_with factor (take r.masks-1.len r.constants-1.values) (take r.masks-1.len r.masks-1.values)
+  pairs = zip_with factor (take r.masks.len r.constants.values) (take r.masks.len r.masks.values)
 
   same : pairs ≡ product_in r
-  same = ap (λ (l : ℕ). zip_with factor (take l r.constants-1.values) (take r.masks-1.len r.masks-1.values)) (masks-len r k ∙ sym (constants-len r k))
+  same = ap (λ (l : ℕ). zip_with factor (take l r.constants.values) (take r.masks.len r.masks.values)) (masks-len r k ∙ sym (constants-len r k))
 
-  next : (room done later : List ℕ) (at place i : ℕ) → i < r.masks-1.len → place ≡ at + 1 + 4 * i → done ≡ sets room (at + 1) (encode_factors (take i pairs))
-      → later ≡ sets done place (encode_factors (factor (get_or r.constants-1.values i 0) (get_or r.masks-1.values i 0) ∷ []))
+  next : (room done later : List ℕ) (at place i : ℕ) → i < r.masks.len → place ≡ at + 1 + 4 * i → done ≡ sets room (at + 1) (encode_factors (take i pairs))
+      → later ≡ sets done place (encode_factors (factor (get_or r.constants.values i 0) (get_or r.masks.values i 0) ∷ []))
       → later ≡ sets room (at + 1) (encode_factors (take (i + 1) pairs))
   next room done later at place i h p d q =
       let fs = product_in r in
       let f = encode_factors (take i fs) in
       let l : i < length fs = omega (arith, masks-len r k) in
       let long : length f ≡ 4 * i = factors-length (take i fs) ∙ ap (λ (z : ℕ). 4 * z) (length-take-le i fs (omega arith)) in
-      let more = encode_factors (factor (get_or r.constants-1.values i 0) (get_or r.masks-1.values i 0) ∷ []) in
+      let more = encode_factors (factor (get_or r.constants.values i 0) (get_or r.masks.values i 0) ∷ []) in
       q ∙ ap (λ (x : List ℕ). sets x place more) (d ∙ ap (λ (x : List Factor). sets room (at + 1) (encode_factors (take i x))) same)
       ∙ sets-append room (at + 1) f more place (omega arith)
       ∙ ap (sets room (at + 1)) (sym (factors-next fs i l ∙ ap (λ (x : Factor). f ++ encode_factors (x ∷ [])) (factor-at r k i h)))
       ∙ ap (λ (x : List Factor). sets room (at + 1) (encode_factors (take (i + 1) x))) (sym same)
 
-  whole : (room done : List ℕ) (at i : ℕ) → r.masks-1.len ≤ i → done ≡ sets (set room at product_kind) (at + 1) (encode_factors (take i pairs))
+  whole : (room done : List ℕ) (at i : ℕ) → r.masks.len ≤ i → done ≡ sets (set room at product_kind) (at + 1) (encode_factors (take i pairs))
       → done ≡ sets room at (encode_products (product_in r ∷ []))
   unfolding encode_products
   whole room done at i h d =
@@ -58,13 +58,13 @@ abbrev start : At-loop-i invariant-loop decreases-loop → Start invariant-loop 
 start c = c.before.before.before.before.before.before
 
 -- The room is as long as it was.
-long : (c : At-loop-i) → length c.loop-i.room-1 ≡ length (start c).args.room-1.now
+long : (c : At-loop-i) → length c.loop-i.room ≡ length (start c).args.room.now
 long c =
     let s = start c in
     let l = c.loop-i in
     ap length l.invariant.2
-    ∙ length-sets (set s.args.room-1.now s.args.at product_kind) (s.args.at + 1) (encode_factors (take l.i (pairs s.args.factors s.pre.0)))
-    ∙ length-set s.args.room-1.now s.args.at product_kind
+    ∙ length-sets (set s.args.room.now s.args.at product_kind) (s.args.at + 1) (encode_factors (take l.i (pairs s.args.factors s.pre.0)))
+    ∙ length-set s.args.room.now s.args.at product_kind
 
 pub offset_bounds-parities-i : goal.offset_bounds-parities-i
 offset_bounds-parities-i c = let s = start (goal.at.offset_bounds-parities-i c).At-loop-i in omega (arith, masks-few s.args.factors s.pre.0 (search rules))
@@ -98,7 +98,7 @@ loop-i-preserved c =
     let p = c.put_factor in (
       omega arith,
       omega arith,
-      next s.args.factors s.pre.0 (set s.args.room-1.now s.args.at product_kind) l.room-1 p.new.0 s.args.at l.place l.i (omega arith) l.invariant.1 l.invariant.2 p.ensures,
+      next s.args.factors s.pre.0 (set s.args.room.now s.args.at product_kind) l.room p.new.0 s.args.at l.place l.i (omega arith) l.invariant.1 l.invariant.2 p.ensures,
     )
 
 pub shape_of-room : goal.shape_of-room
@@ -109,5 +109,5 @@ returns c =
     let s = start (goal.at.returns c).At-loop-i in
     let l = c.loop-i in record {
       value = omega (arith, masks-len s.args.factors s.pre.0);
-      room_after = whole s.args.factors s.pre.0 s.args.room-1.now l.room-1 s.args.at l.i (omega arith) l.invariant.2;
+      room_after = whole s.args.factors s.pre.0 s.args.room.now l.room s.args.at l.i (omega arith) l.invariant.2;
     }

@@ -31,17 +31,17 @@ module _ (es : List ℕ) (m : ℕ) (r : Choice) (h : IsChoice m r) (i : ℕ) (l 
   in-it = ap product_in e ∙ product-back (product_at es m r i)
 
   -- The place behind it, which is still in the room.
-  behind : (at : ℕ) → at ≡ 2 + products_length m r.degrees-1 i → at + product_length (length (product_in v)) ≡ 2 + products_length m r.degrees-1 (i + 1)
+  behind : (at : ℕ) → at ≡ 2 + products_length m r.degrees i → at + product_length (length (product_in v)) ≡ 2 + products_length m r.degrees (i + 1)
   unfolding products_length
   behind at a =
       let q = ap length in-it ∙ product-length-at es m r h i l in
       rw (a, q, add-one) (omega arith)
 
-  fits : (at room : ℕ) → at ≡ 2 + products_length m r.degrees-1 i → form_length m r ≤ room → at + product_length (length (product_in v)) ≤ room
-  fits at room a f = omega (arith, behind at a, lengths-grow m r.degrees-1 (i + 1) r.count (omega arith))
+  fits : (at room : ℕ) → at ≡ 2 + products_length m r.degrees i → form_length m r ≤ room → at + product_length (length (product_in v)) ≤ room
+  fits at room a f = omega (arith, behind at a, lengths-grow m r.degrees (i + 1) r.count (omega arith))
 
   -- It is written behind those before it.
-  next : (room done later : List ℕ) (at : ℕ) → at ≡ 2 + products_length m r.degrees-1 i → done ≡ sets room 2 (encode_products (products_by es m r i))
+  next : (room done later : List ℕ) (at : ℕ) → at ≡ 2 + products_length m r.degrees i → done ≡ sets room 2 (encode_products (products_by es m r i))
       → later ≡ sets done at (encode_products (product_in v ∷ [])) → later ≡ sets room 2 (encode_products (products_by es m r (i + 1)))
   next room done later at a d q =
       let before = encode_products (products_by es m r i) in
@@ -60,10 +60,10 @@ abbrev start : At-loop-i invariant-loop decreases-loop → Start invariant-loop 
 start c = c.before.before.before.before.before
 
 -- The room is as long as it was.
-long : (c : At-loop-i) → length c.loop-i.room-1 ≡ length (start c).args.room-1.now
+long : (c : At-loop-i) → length c.loop-i.room ≡ length (start c).args.room.now
 long c =
     let a = (start c).args in
-    ap length c.loop-i.invariant.2 ∙ length-sets a.room-1.now 2 (encode_products (products_by (listed a.equations) a.m a.choice c.loop-i.i))
+    ap length c.loop-i.invariant.2 ∙ length-sets a.room.now 2 (encode_products (products_by (listed a.equations) a.m a.choice c.loop-i.i))
 
 pub product_of-product-requires : goal.product_of-product-requires
 product_of-product-requires c =
@@ -75,10 +75,10 @@ pub put_product-at-requires : goal.put_product-at-requires
 put_product-at-requires c =
     let s = start (goal.at.put_product-at-requires c).At-loop-i in
     let l = c.loop-i in
-    let v = c.product_of-product in (
-      is (listed s.args.equations) s.args.m s.args.choice s.pre.1.0 l.i (omega arith) v.result v.ensures,
-      fits (listed s.args.equations) s.args.m s.args.choice s.pre.1.0 l.i (omega arith) v.result v.ensures l.at (length l.room-1) l.invariant.1 (omega (arith, s.pre.1.1, long (goal.at.put_product-at-requires c).At-loop-i)),
-    )
+    let v = c.product_of-product in record {
+      product = is (listed s.args.equations) s.args.m s.args.choice s.pre.1.0 l.i (omega arith) v.result v.ensures;
+      factors_in_bounds = fits (listed s.args.equations) s.args.m s.args.choice s.pre.1.0 l.i (omega arith) v.result v.ensures l.at (length l.room) l.invariant.1 (omega (arith, s.pre.1.1, long (goal.at.put_product-at-requires c).At-loop-i));
+    }
 
 pub loop-i-preserved : goal.loop-i-preserved
 loop-i-preserved c =
@@ -88,7 +88,7 @@ loop-i-preserved c =
     let p = c.put_product-at in (
       omega arith,
       p.ensures.0 ∙ behind (listed s.args.equations) s.args.m s.args.choice s.pre.1.0 l.i (omega arith) v.result v.ensures l.at l.invariant.1,
-      next (listed s.args.equations) s.args.m s.args.choice s.pre.1.0 l.i (omega arith) v.result v.ensures s.args.room-1.now l.room-1 p.new.0 l.at l.invariant.1 l.invariant.2 p.ensures.1,
+      next (listed s.args.equations) s.args.m s.args.choice s.pre.1.0 l.i (omega arith) v.result v.ensures s.args.room.now l.room p.new.0 l.at l.invariant.1 l.invariant.2 p.ensures.1,
     )
 
 pub shape_of-room : goal.shape_of-room
@@ -99,6 +99,6 @@ returns c =
     let s = start (goal.at.returns c).At-loop-i in
     let l = c.loop-i in
     let e : l.i ≡ s.args.choice.count = omega arith in record {
-      value = l.invariant.1 ∙ ap (λ (k : ℕ). 2 + products_length s.args.m s.args.choice.degrees-1 k) e;
-      room_after = l.invariant.2 ∙ ap (λ (k : ℕ). sets s.args.room-1.now 2 (encode_products (products_by (listed s.args.equations) s.args.m s.args.choice k))) e;
+      value = l.invariant.1 ∙ ap (λ (k : ℕ). 2 + products_length s.args.m s.args.choice.degrees k) e;
+      room_after = l.invariant.2 ∙ ap (λ (k : ℕ). sets s.args.room.now 2 (encode_products (products_by (listed s.args.equations) s.args.m s.args.choice k))) e;
     }

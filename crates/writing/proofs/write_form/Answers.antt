@@ -15,13 +15,13 @@ use Rattle.projection.proofs.Restrictions.{spans-few, completed-spans}
 use Rattle.writing.specs.Writing.{form_tests, form_bytes}
 use Rattle.writing.proofs.Answers.{size-refused, size-passed, chosen-length, chosen-numbers, chosen-room, table-first, size-first, none_first, write-ways}
 use Rattle.writing.proofs.write_form.Goals as goal
-use Rattle.writing.proofs.write_form.Goals.{After-complete-completed, After-equations-equations, Else-fault-ne0, Else-m-gt-MAX_LISTED}
+use Rattle.writing.proofs.write_form.Goals.{After-complete-completed, After-equations-equations, After-form_length-length, Else-fault-ne0, Else-m-gt-MAX_LISTED}
 
 pub returns-then-fault-ne0 : goal.returns-then-fault-ne0
 returns-then-fault-ne0 c =
     let a = c.args in
     let t = c.table_fault-fault in
-    (write-ways a.n a.on.now a.free.now a.room-1.now).faulty t.result (table-first a.n a.on.now a.free.now t.result t.ensures c.if-fault-ne0.true) c.if-fault-ne0.true c.refused.result c.refused.ensures
+    (write-ways a.n a.on.now a.free.now a.room.now).faulty t.result (table-first a.n a.on.now a.free.now t.result t.ensures c.if-fault-ne0.true) c.if-fault-ne0.true c.refused.result c.refused.ensures
 
 -- Past the first test: the arguments, and that they are an accepted table.
 module _ (c : Else-fault-ne0) where
@@ -35,7 +35,7 @@ module _ (c : Else-fault-ne0) where
   free = c.args.free.now
 
   abbrev room : List ℕ
-  room = c.args.room-1.now
+  room = c.args.room.now
 
   passed : table_fault n on free ≡ 0
   passed = sym c.table_fault-fault.ensures ∙ c.if-fault-ne0.false
@@ -47,7 +47,7 @@ pub complete-completed-requires : goal.complete-completed-requires
 complete-completed-requires c = table c
 
 -- The table is completed: its space is one of n variables.
-within : (c : After-complete-completed) → BasisWithin (n c.before) c.complete-completed.result.basis-1
+within : (c : After-complete-completed) → BasisWithin (n c{-Else-fault-ne0-}) c.complete-completed.result.basis
 within c = completed-spans c.complete-completed.ensures (table c{-Else-fault-ne0-}).few
 
 pub overflow_sub-m : goal.overflow_sub-m
@@ -72,12 +72,15 @@ module _ (c : Else-m-gt-MAX_LISTED) where
       (size-passed (n tested) (on tested) (free tested) completing.complete-completed.result completing.complete-completed.ensures c.if-m-gt-MAX_LISTED.false)
 
 pub choose_restriction-choice-requires : goal.choose_restriction-choice-requires
-choose_restriction-choice-requires c = (within (completing (goal.at.choose_restriction-choice-requires c).Else-m-gt-MAX_LISTED), c.if-m-gt-MAX_LISTED.false)
+choose_restriction-choice-requires c = record {
+      basis_within = within (completing (goal.at.choose_restriction-choice-requires c).Else-m-gt-MAX_LISTED);
+      len_bound = c.if-m-gt-MAX_LISTED.false;
+    }
 
 -- The primes are chosen, and the length of their form is counted.
-module _ (c : After-form-length) where
+module _ (c : After-form_length-length) where
   abbrev sized : Else-m-gt-MAX_LISTED
-  sized = c
+  sized = c{-Else-m-gt-MAX_LISTED-}
 
   counted : c.form_length-length.result ≡ length (form_bytes (n (tested sized)) (on (tested sized)) (free (tested sized)))
   counted =
@@ -94,15 +97,15 @@ returns-then-room-length c =
 pub equations-equations-requires : goal.equations-equations-requires
 equations-equations-requires c =
     let w = within (completing (sized (goal.at.equations-equations-requires c).After-form_length-length)) in
-    (w.basis-1, w.few)
+    record { basis = w.basis; n_le_max_variables = w.few }
 
 -- The equations are those of the space that was found.
 module _ (c : After-equations-equations) where
-  abbrev counting : After-form-length
+  abbrev counting : After-form_length-length
   counting = c{-After-form_length-length-}
 
   abbrev bound : List ℕ
-  bound = equations (n (tested (sized counting))) (vectors_of (completing (sized counting)).complete-completed.result.basis-1)
+  bound = equations (n (tested (sized counting))) (vectors_of (completing (sized counting)).complete-completed.result.basis)
 
   found : c.equations-equations.result ≡ short bound
   found = c.equations-equations.ensures

@@ -19,10 +19,10 @@ use Rattle.basis.proofs.Values.{basis-len, short-listed, short-again, short-len,
 use Rattle.basis.proofs.Basis.join.Goals as goal
 
 pub offset_bounds-vectors-i : goal.offset_bounds-vectors-i
-offset_bounds-vectors-i c =omega (arith, vector-room c.args.self c.requires.basis c.loop-i.i (omega arith))
+offset_bounds-vectors-i c = omega (arith, vector-room c.args.self c.requires.basis c.loop-i.i (omega arith))
 
 pub bounds-vectors-i : goal.bounds-vectors-i
-bounds-vectors-i c =vector-room c.args.self c.requires.basis c.loop-i.i (omega arith)
+bounds-vectors-i c = vector-room c.args.self c.requires.basis c.loop-i.i (omega arith)
 
 pub clear_lead-cleared-requires : goal.clear_lead-cleared-requires
 clear_lead-cleared-requires c = c.requires.some
@@ -30,7 +30,7 @@ clear_lead-cleared-requires c = c.requires.some
 pub push-out-requires : goal.push-out-requires
 push-out-requires c =
     let l = c.loop-i in
-    (l.invariant.2, omega (arith, vector-room c.args.self c.requires.basis l.i (omega arith)))
+    record { self_value = l.invariant.2; len_lt_max_variables = omega (arith, vector-room c.args.self c.requires.basis l.i (omega arith)) }
 
 module _ (b : Basis) (r : ℕ) (j : Joins b r) where
   abbrev vs : List ℕ
@@ -38,10 +38,10 @@ module _ (b : Basis) (r : ℕ) (j : Joins b r) where
 
   -- One vector passed: the smaller of two is written, the larger carried on.
   step : (done : List ℕ) (carried i : ℕ) → i < b.len
-      → (done ++ (min carried (clear r (get_or b.vectors-1 i 0)) ∷ [])) ++ place (max carried (clear r (get_or b.vectors-1 i 0))) (map (clear r) (drop (i + 1) vs))
+      → (done ++ (min carried (clear r (get_or b.vectors i 0)) ∷ [])) ++ place (max carried (clear r (get_or b.vectors i 0))) (map (clear r) (drop (i + 1) vs))
       ≡ done ++ place carried (map (clear r) (drop i vs))
   step done carried i h =
-      let v = get_or b.vectors-1 i 0 in
+      let v = get_or b.vectors i 0 in
       let rest = drop (i + 1) vs in
       let next : drop i vs ≡ v ∷ rest = vector-next b j.basis i h in
       let tail : Reduced (map (clear r) (v ∷ rest)) = clear-reduced r j.some (v ∷ rest)
@@ -85,7 +85,7 @@ loop-i-preserved c =
 pub push-whole-requires : goal.push-whole-requires
 push-whole-requires c =
     let l = c.loop-i in
-    (l.invariant.2, omega (arith, room c.args.self c.args.r c.requires, basis-len c.args.self c.requires.basis))
+    record { self_value = l.invariant.2; len_lt_max_variables = omega (arith, room c.args.self c.args.r c.requires, basis-len c.args.self c.requires.basis) }
 
 pub returns : goal.returns
 returns c =

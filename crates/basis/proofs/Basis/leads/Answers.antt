@@ -15,24 +15,24 @@ use Rattle.basis.proofs.Values.{vector-room, vector-mem, vector-pos, vector-next
 use Rattle.basis.proofs.Basis.leads.Goals as goal
 
 pub offset_bounds-vectors-i : goal.offset_bounds-vectors-i
-offset_bounds-vectors-i c =omega (arith, vector-room c.args.self c.requires c.loop-i.i (omega arith))
+offset_bounds-vectors-i c = omega (arith, vector-room c.args.self c.requires c.loop-i.i (omega arith))
 
 pub bounds-vectors-i : goal.bounds-vectors-i
-bounds-vectors-i c =vector-room c.args.self c.requires c.loop-i.i (omega arith)
+bounds-vectors-i c = vector-room c.args.self c.requires c.loop-i.i (omega arith)
 
 pub lead-place-requires : goal.lead-place-requires
-lead-place-requires c =vector-pos c.args.self c.requires c.loop-i.i (omega arith)
+lead-place-requires c = vector-pos c.args.self c.requires c.loop-i.i (omega arith)
 
 -- The lead of a vector fits its place, and the vector passed adds its lead bit.
 module _ (b : Basis) (k : IsBasis b) (i : ℕ) (h : i < b.len) where
-  low : lead (get_or b.vectors-1 i 0) < max_variables
-  low = lead-fits max_variables (get_or b.vectors-1 i 0) (vector-pos b k i h) (k.below (get_or b.vectors-1 i 0) (vector-mem b k i h))
+  low : lead (get_or b.vectors i 0) < max_variables
+  low = lead-fits max_variables (get_or b.vectors i 0) (vector-pos b k i h) (k.below (get_or b.vectors i 0) (vector-mem b k i h))
 
-  passed : (m p : ℕ) → p ≡ lead (get_or b.vectors-1 i 0) → m ⊕ (1 * 2 ^ p % 65536) ⊕ lead_mask (drop (i + 1) (vectors_of b)) ≡ m ⊕ lead_mask (drop i (vectors_of b))
+  passed : (m p : ℕ) → p ≡ lead (get_or b.vectors i 0) → m ⊕ (1 * 2 ^ p % 65536) ⊕ lead_mask (drop (i + 1) (vectors_of b)) ≡ m ⊕ lead_mask (drop i (vectors_of b))
   unfolding lead_mask
   passed m p e =
       let x : 1 * 2 ^ p % 65536 ≡ 2 ^ p = shifted_one p 16 (omega (arith, low)) in
-      rw (x, vector-next b k i h, e) (xor_assoc m (2 ^ lead (get_or b.vectors-1 i 0)) (lead_mask (drop (i + 1) (vectors_of b))))
+      rw (x, vector-next b k i h, e) (xor_assoc m (2 ^ lead (get_or b.vectors i 0)) (lead_mask (drop (i + 1) (vectors_of b))))
 
 pub overflow_cast-mask : goal.overflow_cast-mask
 overflow_cast-mask c =

@@ -10,16 +10,16 @@ use Rattle.basis.proofs.Values.{vector-room, vector-pos, vector-next, vector-end
 use Rattle.basis.proofs.Basis.reduce.Goals as goal
 
 pub offset_bounds-vectors-i : goal.offset_bounds-vectors-i
-offset_bounds-vectors-i c =omega (arith, vector-room c.args.self c.requires c.loop-i.i (omega arith))
+offset_bounds-vectors-i c = omega (arith, vector-room c.args.self c.requires c.loop-i.i (omega arith))
 
 pub bounds-vectors-i : goal.bounds-vectors-i
-bounds-vectors-i c =vector-room c.args.self c.requires c.loop-i.i (omega arith)
+bounds-vectors-i c = vector-room c.args.self c.requires c.loop-i.i (omega arith)
 
 pub clear_lead-x-requires : goal.clear_lead-x-requires
-clear_lead-x-requires c =vector-pos c.args.self c.requires c.loop-i.i (omega arith)
+clear_lead-x-requires c = vector-pos c.args.self c.requires c.loop-i.i (omega arith)
 
 -- One vector passed.
-passed : (b : Basis) → IsBasis b → (i : ℕ) → i < b.len → (x : ℕ) → reduce (drop (i + 1) (vectors_of b)) (clear (get_or b.vectors-1 i 0) x) ≡ reduce (drop i (vectors_of b)) x
+passed : (b : Basis) → IsBasis b → (i : ℕ) → i < b.len → (x : ℕ) → reduce (drop (i + 1) (vectors_of b)) (clear (get_or b.vectors i 0) x) ≡ reduce (drop i (vectors_of b)) x
 unfolding reduce
 passed b k i h x = rw (vector-next b k i h)
 
