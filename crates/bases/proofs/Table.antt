@@ -39,6 +39,7 @@ all-bytes = refl
 
 -- Maps that agree over a list agree on each member.
 map_at : {A B : Type 0} (f g : A → B) (l : List A) → map f l ≡ map g l → (a : A) → Mem a l → f a ≡ g a
+map_at {A = A} {B = B} f g mathlib.Core.List.[] e a h = elim h [ ]
 map_at f g (b ∷ l) e a (inl q) = rw q (cc)
 map_at f g (b ∷ l) e a (inr m) = map_at f g l (cc) a m
 
