@@ -1,7 +1,7 @@
 -- Laws of specs.Spaces: the list has just the spaces inside the set, in their order, so that the first of it is the largest; a vector with which the
 -- largest space would still lie inside is its own already. Read next: Examples.
 use mathlib.Core.Path.{◌≡◌, refl, sym, ◌∙◌, subst}
-use mathlib.Core.Bool.{Bool, true}
+use mathlib.Core.Bool.{Bool}
 use mathlib.Core.Logic.{◌⊎◌, inl, inr}
 use mathlib.Core.List.{List, [], ◌∷◌, ◌++◌}
 use Prim.Native.Nat.{ℕ, zero, suc, ◌^◌, ◌≤◌, ◌<◌}

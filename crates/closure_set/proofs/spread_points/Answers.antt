@@ -52,4 +52,4 @@ returns c w =
     let l = c.before.loop-i in
     let s = c.before.before.before.before.before in
     let b = s.args.basis in
-    ap (λ bs. some_point (member l.points) bs w) (sym (vector-end b s.requires.1.basis l.i (omega arith))) ∙ l.invariant.1 w
+    ap (λ bs. some_point (member l.points) bs w) (sym (vector-end b s.requires.basis_within.basis l.i (omega arith))) ∙ l.invariant.1 w
