@@ -1,5 +1,4 @@
 -- `text::write_names` meets its contract: the names passed are written. Assumes nothing.
-use Prim.Native.Nat.{◌-◌}
 use native.Mathlib.Omega.{arith}
 use lib.ListN.{length}
 use Rattle.text.proofs.Pieces.{next_name, names-pieces}

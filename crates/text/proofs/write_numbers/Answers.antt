@@ -1,5 +1,4 @@
 -- `text::write_numbers` meets its contract: the numbers passed are written. Assumes nothing.
-use Prim.Native.Nat.{◌-◌}
 use native.Mathlib.Omega.{arith}
 use lib.ListN.{length}
 use Rattle.text.proofs.Pieces.{spaced_at, spaced-pieces}
@@ -8,9 +7,6 @@ use Rattle.text.proofs.write_numbers.Goals as goal
 
 pub loop-i-init : goal.loop-i-init
 loop-i-init c = (omega arith, wrote_none _ _)
-
-pub overflow_cast-numbers : goal.overflow_cast-numbers
-overflow_cast-numbers c = omega (arith, c.shared_slice_known-in-loop-i-1.given c.loop-i.i)
 
 pub write_labelled-next-requires : goal.write_labelled-next-requires
 write_labelled-next-requires c =

@@ -1,12 +1,9 @@
 -- `text::write_word` meets its contract: the bytes passed are written. Assumes nothing.
 use mathlib.Core.Path.{refl, ap, ◌∙◌}
-use Prim.Native.Nat.{◌-◌}
 use native.Mathlib.Omega.{arith}
 use lib.ListN.{length, take}
 use lib.Seq.{sets, length-sets, take_all}
 use Rattle.text.proofs.Writing.{word_next}
-use Rattle.text.proofs.write_word.Reads as reads
-use Rattle.text.proofs.write_word.Lts as lts
 use Rattle.text.proofs.write_word.Goals as goal
 
 pub loop-i-init : goal.loop-i-init

@@ -3,8 +3,6 @@ use mathlib.Core.Path.{◌≡◌}
 use Prim.Native.Nat.{◌≤◌, ◌-◌}
 use lib.ListN.{length, take}
 use lib.Seq.{sets}
-use Rattle.text.proofs.write_word.Reads as reads
-use Rattle.text.proofs.write_word.Lts as lts
 use Rattle.text.proofs.write_word.Given as goal
 
 abbrev pub invariant-loop-i : goal.invariant-loop-i
