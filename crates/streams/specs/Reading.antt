@@ -1,7 +1,7 @@
 -- What reading gives: the number of bytes, and what it is for them to be the start of an input. That they are is what no contract can say; contracts
 -- of the programs are about every input of which they are the start. Read next: the programs.
 use Rattle.std.specs.Prelude.{◌≡◌, List, ℕ, length, take}
-use Rattle.io.specs.Counts.{IsPrefixLen}
+use Rattle.std.specs.Counts.{IsPrefixLen}
 use Rattle.streams.specs.declared.Input.{Input}
 use Rattle.streams.specs.declared.Input.TheVariants.{Bytes, Failed}
 

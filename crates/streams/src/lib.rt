@@ -4,7 +4,7 @@
 
 ghost use Rattle.streams.specs.Reading.{ReadInto};
 
-use libc::{STDERR_FILENO, STDIN_FILENO, STDOUT_FILENO};
+use std::io::{Print, Read};
 
 // What reading gave: how many bytes stand at the front of the room, or that a read failed.
 #[derive(Clone, Copy)]
@@ -14,17 +14,16 @@ pub enum Input {
 }
 
 // Reads standard input to the front of the room, until it ends or the room is full. A read that fails is said on standard error.
-pub fn read_input(room: &mut [u8]) -> Input
+pub fn read_input(rt: &HostRuntime, room: &mut [u8]) -> Input
     ensures { ReadInto result room.new }
 {
+    let mut input = rt.stdin();
     let mut count = 0;
     while count < room.len() {
-        let got = libc::read(STDIN_FILENO, &mut room[count..]);
-        if got < 0 {
-            complain(b"standard input can't be read\n");
+        let Ok(more) = input.read(&mut room[count..]) else {
+            complain(rt, b"standard input can't be read\n");
             return Input::Failed;
-        }
-        let more = io::count(got, &room[count..]);
+        };
         if more == 0 {
             break;
         }
@@ -34,13 +33,13 @@ pub fn read_input(room: &mut [u8]) -> Input
 }
 
 // Writes bytes to standard output, and says on standard error if that fails.
-pub fn print(bytes: &[u8]) {
-    if !io::write_all(STDOUT_FILENO, bytes) {
-        complain(b"standard output can't be written\n");
+pub fn print(rt: &HostRuntime, bytes: &[u8]) {
+    if rt.stdout().write_all(bytes).is_err() {
+        complain(rt, b"standard output can't be written\n");
     }
 }
 
 // Writes a message to standard error. Where that fails there is nobody left to tell.
-pub fn complain(message: &[u8]) {
-    io::write_all(STDERR_FILENO, message);
+pub fn complain(rt: &HostRuntime, message: &[u8]) {
+    let _ = rt.stderr().write_all(message);
 }
