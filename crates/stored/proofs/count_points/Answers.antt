@@ -10,10 +10,7 @@ use Rattle.stored.specs.Marks.{marks, marked_points}
 use Rattle.stored.proofs.Laying.{table-length}
 use Rattle.stored.proofs.Points.{points-few, points-front, count-more, points-same}
 use Rattle.stored.proofs.count_points.Goals as goal
-
-record-count-requires : Need-record-count-requires invariant-loop decreases-loop
-
-record-count-requires c κs = search rules
+use Rattle.stored.proofs.count_points.Goals.{then-is_marked, else-is_marked}
 
 pub loop-i-init : goal.loop-i-init
 unfolding marked_points
@@ -33,10 +30,10 @@ loop-i-preserved c =
     let ms = marks a.bytes.now in (
       omega arith,
       c.loop-i.invariant.1,
-      ⊎_elim
-          (λ w. omega (arith, w.1, count-more a.on ms c.loop-i.i (omega arith) (sym c.is_marked.ensures ∙ w.0.true)))
-          (λ w. w.1 ∙ c.loop-i.invariant.2 ∙ ap length (sym (points-same a.on ms c.loop-i.i (omega arith) (sym c.is_marked.ensures ∙ w.0.left))))
-          c.if-is_marked.branch,
+      elim c.if-is_marked.branch [
+        then-is_marked w ↦ omega (arith, count-more a.on ms c.loop-i.i (omega arith) (sym c.is_marked.ensures ∙ w.if-is_marked.true))
+        | else-is_marked w ↦ omega (arith, ap length (points-same a.on ms c.loop-i.i (omega arith) (sym c.is_marked.ensures ∙ w.if-is_marked.false)))
+      ],
     )
 
 pub returns : goal.returns

@@ -1,13 +1,11 @@
 -- `stored::first_step` meets its contract: the decision over the first byte, then the kind that it gives. Assumes nothing.
 use mathlib.Core.Path.{◌≡◌, refl, sym, ◌∙◌}
+use mathlib.Core.Logic.{◌≢◌}
 use mathlib.Core.List.{List, [], ◌∷◌}
 use Prim.Native.Nat.{ℕ}
-use denote.Enum.Declared.{tag_of}
-use types.Run.{OneOf, miss}
 use lib.ListN.{drop, get_or}
 use Rattle.records.specs.declared.Kind.{Kind}
 use Rattle.records.specs.declared.Kind.TheVariants.{Variables, Product, Factor, End, On, Free}
-use Rattle.records.specs.contracts.Kind.{the_type}
 use Rattle.records.specs.declared.Walk.TheVariants.{WrongKind}
 use Rattle.records.specs.declared.RecordHead.TheVariants.{Known}
 use Rattle.records.specs.declared.Step.TheVariants.{Stop}
@@ -17,8 +15,8 @@ use Rattle.stored.proofs.first_step.Goals as goal
 use Rattle.stored.proofs.first_step.Goals.{In-Known}
 
 -- Every kind but the first of the enum stands wrong here.
-wrong : (k : Kind) (l : ℕ) (rest : List ℕ) → OneOf (1 ∷ 2 ∷ 3 ∷ 4 ∷ 5 ∷ []) (tag_of the_type k) → Stop (WrongKind 0) ≡ first_table_kind k l rest
-wrong Variables l rest h = absurd (miss (1 ∷ 2 ∷ 3 ∷ 4 ∷ 5 ∷ []) 0 tt h)
+wrong : (k : Kind) (l : ℕ) (rest : List ℕ) → k ≢ Variables → Stop (WrongKind 0) ≡ first_table_kind k l rest
+wrong Variables l rest h = absurd (h refl)
 wrong Product l rest h = refl
 wrong Factor l rest h = refl
 wrong End l rest h = refl
@@ -38,5 +36,4 @@ returns-in-Variables c =
 
 pub returns-in_default : goal.returns-in_default
 returns-in_default c =
-    let g = c.kind.given.0 in
-    rw (known (goal.at.returns-in_default c).In-Known) (wrong g.0 g.1.0 (drop 1 c.args.bytes.now) c.in-Variables.keys2)
+    rw (known (goal.at.returns-in_default c).In-Known) (wrong c.in-Known.kind c.in-Known.body (drop 1 c.args.bytes.now) c.in_default.not-Variables)

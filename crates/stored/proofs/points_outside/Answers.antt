@@ -11,10 +11,6 @@ use Rattle.table.proofs.Table.{outside-next}
 use Rattle.stored.specs.Marks.{Mark, marks, stored_points}
 use Rattle.stored.proofs.points_outside.Goals as goal
 
-record-count-requires : Need-record-count-requires invariant-loop decreases-loop
-
-record-count-requires c κs = search rules
-
 pub loop-i-init : goal.loop-i-init
 loop-i-init c =
     let bytes = c.args.bytes.now in

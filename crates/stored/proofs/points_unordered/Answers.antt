@@ -10,10 +10,6 @@ use Rattle.stored.specs.Marks.{Mark, marks, stored_points}
 use Rattle.stored.proofs.Laying.{table-length}
 use Rattle.stored.proofs.points_unordered.Goals as goal
 
-record-count-requires : Need-record-count-requires invariant-loop decreases-loop
-
-record-count-requires c κs = search rules
-
 pub loop-i-init : goal.loop-i-init
 loop-i-init c =
     let bytes = c.args.bytes.now in

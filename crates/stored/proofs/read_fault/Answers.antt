@@ -37,7 +37,8 @@ returns-then-fault-ne0 c =
     as-told a.bytes.now a.on a.free (number (goal.at.returns-then-fault-ne0 c).After-stored_fault-fault ∙ sym (stored-first a.bytes.now a.on a.free nz)) (place (goal.at.returns-then-fault-ne0 c).After-stored_fault-fault ∙ sym (stored-place a.bytes.now a.on a.free nz))
 
 no-stored : (c : Else-fault-ne0) → stored_fault c.args.bytes.now ≡ 0
-no-stored c = sym (number c{-After-stored_fault-fault-}) ∙ c.if-fault-ne0.false
+unfolding stored_fault
+no-stored c = sym (ap (λ (f : Fault). f.number) c.stored_fault-fault.ensures) ∙ c.if-fault-ne0.false
 
 pub count_points-requires : goal.count_points-requires
 count_points-requires c = stored-laid c.args.bytes.now (no-stored c)

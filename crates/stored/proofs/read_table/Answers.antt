@@ -31,7 +31,11 @@ returns-then-fault-ne0 c =
     let on = a.on.now in
     let free = a.free.now in
     let nz : read_fault bytes (length on) (length free) ≢ 0 = λ z. c.if-fault-ne0.true (number (goal.at.returns-then-fault-ne0 c).After-read_fault-fault ∙ z) in
-    (ap (λ (x : Fault). read_refused x.place x.number) (told (goal.at.returns-then-fault-ne0 c).After-read_fault-fault) ∙ sym (refused-read bytes on free nz), (sym (refused-on bytes on free nz), sym (refused-free bytes on free nz)))
+    record {
+      value = ap (λ (x : Fault). read_refused x.place x.number) (told (goal.at.returns-then-fault-ne0 c).After-read_fault-fault) ∙ sym (refused-read bytes on free nz);
+      on_after = sym (refused-on bytes on free nz);
+      free_after = sym (refused-free bytes on free nz);
+    }
 
 -- Past the test nothing is refused.
 accepted : (c : Else-fault-ne0)
@@ -40,7 +44,8 @@ accepted : (c : Else-fault-ne0)
     (length c.args.on.now)
     (length c.args.free.now)
     ≡ 0
-accepted c = sym (number c{-After-read_fault-fault-}) ∙ c.if-fault-ne0.false
+unfolding read_fault
+accepted c = sym (ap (λ (x : Fault). x.number) c.read_fault-fault.ensures) ∙ c.if-fault-ne0.false
 
 pub write_points-on_count-requires : goal.write_points-on_count-requires
 write_points-on_count-requires c =
@@ -65,7 +70,9 @@ returns c =
     let bytes = a.bytes.now in
     let on = a.on.now in
     let free = a.free.now in
-    let z = accepted (goal.at.returns c).Else-fault-ne0 in (
-      (cc (c.write_points-on_count.ensures.value, c.write_points-free_count.ensures.value, accepted-read bytes on free z)),
-      (c.write_points-on_count.ensures.room_after ∙ sym (accepted-on bytes on free z), c.write_points-free_count.ensures.room_after ∙ sym (accepted-free bytes on free z)),
-    )
+    let z = accepted (goal.at.returns c).Else-fault-ne0 in
+    record {
+      value = cc (c.write_points-on_count.ensures.value, c.write_points-free_count.ensures.value, accepted-read bytes on free z);
+      on_after = c.write_points-on_count.ensures.room_after ∙ sym (accepted-on bytes on free z);
+      free_after = c.write_points-free_count.ensures.room_after ∙ sym (accepted-free bytes on free z);
+    }

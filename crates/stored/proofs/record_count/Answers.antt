@@ -11,7 +11,3 @@ overflow_sub-result-2 c = omega (arith, table-length c.args.bytes.now c.requires
 
 pub returns : goal.returns
 returns c = omega (arith, table-length c.args.bytes.now c.requires)
-
-pub record-count-spec : {M : Type 1} → statement M
-
-record-count-spec = close (spec sub-result sub-result-2 returns)

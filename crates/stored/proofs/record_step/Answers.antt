@@ -1,15 +1,13 @@
 -- `stored::record_step` meets its contract: the place, then the decision over the byte there, then the kind that it gives. Assumes nothing.
 use mathlib.Core.Path.{◌≡◌, refl, sym, ap, ◌∙◌}
+use mathlib.Core.Logic.{◌≢◌}
 use mathlib.Core.List.{List, [], ◌∷◌}
 use Prim.Native.Nat.{ℕ, ◌+◌}
-use denote.Enum.Declared.{tag_of}
-use types.Run.{OneOf, miss}
 use borrow.Author.Rules.{rules}
 use borrow.Author.Tests.{eq-eqb, ne_eqb}
 use lib.ListN.{drop, get_or}
 use Rattle.records.specs.declared.Kind.{Kind}
 use Rattle.records.specs.declared.Kind.TheVariants.{Variables, Product, Factor, End, On, Free}
-use Rattle.records.specs.contracts.Kind.{the_type}
 use Rattle.records.specs.declared.Walk.TheVariants.{WrongKind}
 use Rattle.records.specs.declared.RecordHead.TheVariants.{Known}
 use Rattle.records.specs.declared.Step.TheVariants.{Stop}
@@ -20,37 +18,33 @@ use Rattle.stored.proofs.record_step.Goals as goal
 use Rattle.stored.proofs.record_step.Goals.{In-Known}
 
 -- Every kind of the enum but the end, an on point and a free point stands wrong here.
-wrong : (k : Kind) (l count place : ℕ) (rest : List ℕ) → OneOf (0 ∷ 1 ∷ 2 ∷ []) (tag_of the_type k) → Stop (WrongKind place) ≡ later_table_kind k l count place rest
-wrong Variables l count place rest h = refl
-wrong Product l count place rest h = refl
-wrong Factor l count place rest h = refl
-wrong End l count place rest h = absurd (miss (0 ∷ 1 ∷ 2 ∷ []) 3 tt h)
-wrong On l count place rest h = absurd (miss (0 ∷ 1 ∷ 2 ∷ []) 4 tt h)
-wrong Free l count place rest h = absurd (miss (0 ∷ 1 ∷ 2 ∷ []) 5 tt h)
+wrong : (k : Kind) (l count place : ℕ) (rest : List ℕ) → k ≢ End → k ≢ On → k ≢ Free → Stop (WrongKind place) ≡ later_table_kind k l count place rest
+wrong Variables l count place rest e o f = refl
+wrong Product l count place rest e o f = refl
+wrong Factor l count place rest e o f = refl
+wrong End l count place rest e o f = absurd (e refl)
+wrong On l count place rest e o f = absurd (o refl)
+wrong Free l count place rest e o f = absurd (f refl)
 
 pub returns-then-place-eq-LONGEST_TABLE : goal.returns-then-place-eq-LONGEST_TABLE
 returns-then-place-eq-LONGEST_TABLE c = rw (eq-eqb _ _ c.if-place-eq-LONGEST_TABLE.true)
 
--- Where the function began, seen from where the kind is known.
-abbrev start : In-Known → Start
-start c = c.before.before.before.before.before.before.before
-
 -- The kind of the byte at the place, once it is known, and what the step then is.
 module _ (c : In-Known) where
-  known : head_of (get_or (start c).args.bytes.now (start c).args.place 0) (start c).args.place ≡ Known c.in-Known.kind c.in-Known.body
+  known : head_of (get_or c.args.bytes.now c.args.place 0) c.args.place ≡ Known c.in-Known.kind c.in-Known.body
   known = sym c.head_of.ensures ∙ c.in-Known.is
 
   step : {kind : Kind} → c.in-Known.kind ≡ kind
-      → table_step (start c).args.count (get_or (start c).args.bytes.now (start c).args.place 0) (start c).args.place (drop ((start c).args.place + 1) (start c).args.bytes.now)
-      ≡ later_table_kind kind c.in-Known.body (start c).args.count (start c).args.place (drop ((start c).args.place + 1) (start c).args.bytes.now)
+      → table_step c.args.count (get_or c.args.bytes.now c.args.place 0) c.args.place (drop (c.args.place + 1) c.args.bytes.now)
+      ≡ later_table_kind kind c.in-Known.body c.args.count c.args.place (drop (c.args.place + 1) c.args.bytes.now)
   step e =
-      let a = (start c).args in
+      let a = c.args in
       rw (ne_eqb _ longest_table c.if-place-eq-LONGEST_TABLE.false, known)
       (ap (λ (k : Kind). later_table_kind k c.in-Known.body a.count a.place (drop (a.place + 1) a.bytes.now)) e)
 
 pub end_step-requires : goal.end_step-requires
 end_step-requires c =
-    let a = (start (goal.at.end_step-requires c).In-Known).args in
+    let a = c.args in
     record {
       place_in_bounds = search rules;
       body_value = (head-known (get_or a.bytes.now a.place 0) a.place (known (goal.at.end_step-requires c).In-Known)).1 ∙ ap body_length c.in-End.is;
@@ -67,32 +61,10 @@ pub returns-in-Free : goal.returns-in-Free
 returns-in-Free c = c.body_step-in-Free.ensures ∙ sym (step (goal.at.returns-in-Free c).In-Known c.in-Free.is)
 
 pub returns-in-End : goal.returns-in-End
-returns-in-End c = c.End-step.ensures ∙ sym (step (goal.at.returns-in-End c).In-Known c.in-End.is)
+returns-in-End c = c.end_step.ensures ∙ sym (step (goal.at.returns-in-End c).In-Known c.in-End.is)
 
 pub returns-in_default : goal.returns-in_default
 returns-in_default c =
-    let g = c.kind.given.0 in
-    let a = (start (goal.at.returns-in_default c).In-Known).args in
-    wrong g.0 g.1.0 a.count a.place (drop (a.place + 1) a.bytes.now) c.in-On.keys4 ∙ sym (step (goal.at.returns-in_default c).In-Known refl)
-
-pub record-step-spec : {M : Type 1} → statement M
-
-record-step-spec =
-    close
-    (spec
-    returns
-    shared-slice-read-head-of
-    head-of-requires
-    enum-known-fault
-    enum-known-kind
-    enum_told
-    body-step-requires
-    enum-told-2
-    body-step-requires-2
-    enum-told-3
-    end-step-requires
-    returns-2
-    returns-3
-    returns-4
-    returns-5
-    returns-6)
+    let a = c.args in
+    wrong c.in-Known.kind c.in-Known.body a.count a.place (drop (a.place + 1) a.bytes.now) c.in_default.not-End c.in_default.not-On c.in_default.not-Free
+    ∙ sym (step (goal.at.returns-in_default c).In-Known refl)

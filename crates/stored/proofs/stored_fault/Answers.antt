@@ -21,7 +21,7 @@ returns-then-fault-ne0 c =
 
 -- Past the test the walk found no fault.
 none : (c : Else-fault-ne0) → fault_number (walked c.args.bytes.now) ≡ 0
-none c = sym (ap (λ (f : Fault). f.number) (found c{-After-layout_fault-fault-})) ∙ c.if-fault-ne0.false
+none c = sym (ap (λ (f : Fault). f.number) (c.layout_fault-fault.ensures ∙ ap fault_found c.walk_table.ensures)) ∙ c.if-fault-ne0.false
 
 pub points_fault-requires : goal.points_fault-requires
 points_fault-requires c = none-fault (walked c.args.bytes.now) (none c)

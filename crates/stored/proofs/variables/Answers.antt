@@ -5,6 +5,3 @@ use Rattle.stored.proofs.variables.Goals as goal
 
 pub bounds-bytes-1 : goal.bounds-bytes-1
 bounds-bytes-1 c = omega (arith, table-length c.args.bytes.now c.requires)
-
-pub overflow_cast-result : goal.overflow_cast-result
-overflow_cast-result c = omega (arith, c.shared_slice_known-1.given 1)

@@ -15,10 +15,6 @@ use Rattle.stored.proofs.walk_records.Goals.{In-Whole}
 pub loop-place-init : goal.loop-place-init
 loop-place-init c = (search rules, search rules, refl)
 
-record-step-requires : Need-record-step-requires invariant-loop decreases-loop
-
-record-step-requires c κs = search rules
-
 pub returns-in-Stop : goal.returns-in-Stop
 returns-in-Stop c =
     sym (walk_ends table_step count_passed bytes_missing c.args.bytes.now c.loop-place.count c.loop-place.place (omega arith) c.in-Stop.end (sym c.record_step.ensures ∙ c.in-Stop.is)) ∙ c.loop-place.invariant.2
@@ -53,8 +49,7 @@ pub loop-place-smaller : goal.loop-place-smaller
 loop-place-smaller c = omega (arith, there c)
 
 pub loop-place-preserved : goal.loop-place-preserved
-loop-place-preserved c =
-(
+loop-place-preserved c = (
       there c,
       omega arith,
       sym (walk-goes table_step count_passed bytes_missing c.args.bytes.now c.loop-place.count c.loop-place.place (omega arith) c.in-Whole.length (body c) (step c))

@@ -8,11 +8,7 @@ use lib.ListN.{length, get_or-map}
 use Rattle.stored.specs.Marks.{Mark, no_mark, marks}
 use Rattle.stored.proofs.Points.{none_written, all-written, room-left, written-more, written_same}
 use Rattle.stored.proofs.write_points.Goals as goal
-use Rattle.stored.proofs.write_points.Goals.{After-point_at}
-
-record-count-requires : Need-record-count-requires invariant-loop decreases-loop
-
-record-count-requires c κs = search rules
+use Rattle.stored.proofs.write_points.Goals.{After-point_at, then-is_marked, else-is_marked}
 
 pub loop-i-init : goal.loop-i-init
 loop-i-init c =
@@ -52,15 +48,15 @@ loop-i-preserved c =
     let ms = marks a.bytes.now in (
       omega arith,
       c.loop-i.invariant.1,
-      ⊎_elim
-          (λ w.
-          let point = w.1.ensures ∙ get_or-map (λ ((goal.at.loop-i-preserved c).After-is_marked : Mark). c.point) ms c.loop-i.i no_mark in
-          rw (w.3, w.2, point)
-          (written-more a.on ms a.room.now c.loop-i.i c.loop-i.at c.loop-i.room (omega arith) c.loop-i.invariant.2 c.requires.bytes_in_bounds (sym c.is_marked.ensures ∙ w.0.true)))
-          (λ w.
-          rw (w.2, w.1)
-          (written_same a.on ms a.room.now c.loop-i.i c.loop-i.at c.loop-i.room (omega arith) c.loop-i.invariant.2 (sym c.is_marked.ensures ∙ w.0.left)))
-          c.if-is_marked.branch,
+      elim c.if-is_marked.branch [
+        then-is_marked w ↦ (
+          let point = w.point_at.ensures ∙ get_or-map (λ (m : Mark). m.point) ms c.loop-i.i no_mark in
+          rw (w.room-is, w.at-is, point)
+          (written-more a.on ms a.room.now c.loop-i.i c.loop-i.at c.loop-i.room (omega arith) c.loop-i.invariant.2 c.requires.bytes_in_bounds (sym c.is_marked.ensures ∙ w.if-is_marked.true)))
+        | else-is_marked w ↦
+          rw (w.room-is, w.at-is)
+          (written_same a.on ms a.room.now c.loop-i.i c.loop-i.at c.loop-i.room (omega arith) c.loop-i.invariant.2 (sym c.is_marked.ensures ∙ w.if-is_marked.false))
+      ],
     )
 
 pub shape_of-room : goal.shape_of-room
