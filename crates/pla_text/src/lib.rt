@@ -92,6 +92,7 @@ fn same(a: &[u8], b: &[u8]) -> bool
 }
 
 // A number with one digit more.
+#[tactic(auto, unfolding(crate::specs::Numbers::with_digit))]
 fn with_digit(value: usize, byte: u8) -> usize
     requires { value ≤ 1000000000 }
     ensures { result ≡ with_digit value byte }
@@ -163,6 +164,7 @@ fn operand(name: &[u8], word: &[u8]) -> Statement
 }
 
 // A directive by its name, the number of words that follow it, and the first of these.
+#[tactic(auto, unfolding(crate::specs::Statements::directive_of))]
 fn directive(name: &[u8], count: usize, word: &[u8]) -> Statement
     ensures { result ≡ directive_of name.now count word.now }
 {

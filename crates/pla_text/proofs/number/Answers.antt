@@ -1,6 +1,5 @@
 -- `pla_text::number` meets its contract. The loop's invariant: the digits from its place on complete the number. Assumes nothing.
 use mathlib.Core.Path.{refl, sym, ◌∙◌}
-use Prim.Native.Nat.{◌-◌}
 use native.Mathlib.Omega.{arith}
 use lib.ListN.{get_or}
 use Rattle.pla_text.proofs.Digits.{number-next, number-end, with-digit-small}

@@ -1,6 +1,5 @@
 -- `pla_text::run_end` meets its contract. The loop's invariant: from its place on the walk ends where it ends from the first. Assumes nothing.
 use mathlib.Core.Path.{refl, sym, ap, ◌∙◌}
-use Prim.Native.Nat.{◌-◌}
 use native.Mathlib.Omega.{arith}
 use lib.ListN.{length}
 use Rattle.pla_text.specs.Text.{stops}

@@ -1,6 +1,5 @@
 -- `pla_text::same` meets its contract. The loop's invariant: the bytes from its place on decide the answer. Assumes nothing.
 use mathlib.Core.Path.{refl, sym, ◌∙◌}
-use Prim.Native.Nat.{◌-◌}
 use native.Mathlib.Omega.{arith}
 use borrow.Author.Tests.{eq-eqb, ne_eqb}
 use Rattle.pla_text.proofs.Parts.{same_next, same_end, same-lengths}
