@@ -5,7 +5,6 @@ use mathlib.Core.Path.{◌≡◌, refl, sym, ap, ◌∙◌}
 use mathlib.Core.Bool.{true, false, ◌&&◌}
 use native.Mathlib.Omega.{arith}
 use borrow.Author.Rules.{rules}
-use borrow.Author.Tests.{not-true, not-false}
 use Rattle.gf2.proofs.Logic.{and-true, and-false}
 use Rattle.product.specs.Product.{factor, agrees}
 use Rattle.form.specs.Counting.{factor_length, factors_before}
@@ -42,7 +41,7 @@ module _ (c : After-apart) (constant : ℕ) where
 
 pub returns-then-not-apart : goal.returns-then-not-apart
 returns-then-not-apart c = λ constant.
-    let no : c.apart.result ≡ false = not-true c.apart.result c.if-not-apart.true in
+    let no : c.apart.result ≡ false = c.if-not-apart.true in
     sym (sym (c.loop-left.invariant.3 constant) ∙ last (goal.at.returns-then-not-apart c).After-apart constant ∙ rw (no, and-false))
 
 pub loop-left-preserved : goal.loop-left-preserved
@@ -52,7 +51,7 @@ loop-left-preserved c =
       omega arith,
       omega arith,
       others-fit l.left a.bytes.now l.at (omega arith) a.n l.invariant.2,
-      λ constant. let yes : c.apart.result ≡ true = not-false c.apart.result c.if-not-apart.false in sym (last (goal.at.loop-left-preserved c).After-apart constant ∙ rw (yes, and-true)) ∙ l.invariant.3 constant,
+      λ constant. let yes : c.apart.result ≡ true = c.if-not-apart.false in sym (last (goal.at.loop-left-preserved c).After-apart constant ∙ rw (yes, and-true)) ∙ l.invariant.3 constant,
     )
 
 pub returns : goal.returns

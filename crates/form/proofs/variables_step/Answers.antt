@@ -24,7 +24,7 @@ pub bounds-bytes-1 : goal.bounds-bytes-1
 bounds-bytes-1 c = omega (arith, there (goal.at.bounds-bytes-1 c).In-Whole, length-drop 1 c.args.bytes.now)
 
 pub overflow_cast-bytes : goal.overflow_cast-bytes
-overflow_cast-bytes c = omega (arith, c.shared_slice_known-2-1.given 1)
+overflow_cast-bytes c = omega (arith, c.type_inv.bytes 1)
 
 -- What n says, as the definition asks it of the bytes after the kind.
 count : (c : After-bad_count) → bad_count (get_or (drop 1 c.args.bytes.now) 0 0) ≡ c.bad_count.result

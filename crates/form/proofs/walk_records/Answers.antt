@@ -1,9 +1,8 @@
 -- `form::walk_records` meets its contract: the walk from the place that the loop has come to is the walk from the start. Assumes nothing.
-use Prim.Native.Nat.{◌+◌, ◌-◌}
+use Prim.Native.Nat.{◌+◌}
 use mathlib.Core.Path.{◌≡◌, refl, sym, ◌∙◌}
 use native.Mathlib.Omega.{arith}
-use borrow.Author.Rules.{rules}
-use lib.ListN.{length, drop, get_or}
+use lib.ListN.{drop, get_or}
 use Rattle.records.specs.declared.Step.TheVariants.{Whole}
 use Rattle.records.proofs.Walking.{walk-over, walk_ends, walk-goes}
 use Rattle.form.specs.Walk.{record_step, passed, records_ending}
@@ -67,10 +66,6 @@ loop-place-preserved c =
       rw (carry c).behind_then
           (sym (walk-goes (record_step a.alone a.n) passed (records_ending a.alone) a.bytes.now b c.loop-place.place (omega arith) l there (step c)) ∙ c.loop-place.invariant.1),
     )
-
-records-ending-requires : Need-records-ending-requires invariant-loop decreases-loop
-
-records-ending-requires c κs = search rules
 
 pub returns : goal.returns
 returns c =
