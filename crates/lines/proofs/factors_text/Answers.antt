@@ -1,5 +1,4 @@
 -- `lines::factors_text` meets its contract: the factors passed are written. Assumes nothing.
-use Prim.Native.Nat.{◌-◌}
 use native.Mathlib.Omega.{arith}
 use lib.ListN.{length}
 use Rattle.text.proofs.Writing.{room-piece, wrote_none, wrote-length, wrote-piece, wrote_pieces}
@@ -9,24 +8,19 @@ use Rattle.lines.proofs.factors_text.Goals as goal
 pub loop-i-init : goal.loop-i-init
 loop-i-init c = (omega arith, wrote_none _ _)
 
--- Where the call began, from the loop.
-abbrev start : At-loop-i invariant-loop decreases-loop → Start invariant-loop decreases-loop
-start c = c.before.before.before.before
-
 pub factor_text-next-requires : goal.factor_text-next-requires
 factor_text-next-requires c =
     let l = c.loop-i in
-    let s = start (goal.at.factor_text-next-requires c).At-loop-i in
-    let a = s.args in
+    let a = c.args in
     record {
-      n_le_max_variables = s.pre.0;
-      has_room = room-piece (factor_at a.n a.constants.now a.masks.now) l.i (length a.masks.now) (factors-pieces a.n a.constants.now a.masks.now s.pre.1.0) s.pre.1.1 (omega arith) l.invariant.1;
+      n_le_max_variables = c.requires.n_le_max_variables;
+      has_room = room-piece (factor_at a.n a.constants.now a.masks.now) l.i (length a.masks.now) (factors-pieces a.n a.constants.now a.masks.now c.requires.constants_len) c.requires.has_room (omega arith) l.invariant.1;
     }
 
 pub loop-i-preserved : goal.loop-i-preserved
 loop-i-preserved c =
     let l = c.loop-i in
-    let a = (start (goal.at.loop-i-preserved c).At-loop-i).args in
+    let a = c.args in
     (omega arith, wrote-piece (factor_at a.n a.constants.now a.masks.now) l.i l.invariant.1 c.factor_text-next.ensures)
 
 pub shape_of-room : goal.shape_of-room
@@ -35,6 +29,5 @@ shape_of-room c = wrote-length c.loop-i.invariant.1
 pub returns : goal.returns
 returns c =
     let l = c.loop-i in
-    let s = start (goal.at.returns c).At-loop-i in
-    let a = s.args in
-    wrote_pieces (factor_at a.n a.constants.now a.masks.now) l.i (length a.masks.now) (factors-pieces a.n a.constants.now a.masks.now s.pre.1.0) (omega arith) l.invariant.1
+    let a = c.args in
+    wrote_pieces (factor_at a.n a.constants.now a.masks.now) l.i (length a.masks.now) (factors-pieces a.n a.constants.now a.masks.now c.requires.constants_len) (omega arith) l.invariant.1
