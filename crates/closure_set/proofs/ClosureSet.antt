@@ -1,10 +1,10 @@
 -- Laws of specs.ClosureSet: what is in the closure set, that it holds 0, so that there is a largest space inside; what a function spread over a space is
 -- on at. Read next: Steps.
-use mathlib.Core.Path.{◌≡◌, sym, ap, ◌∙◌, subst}
-use mathlib.Core.Bool.{Bool, true}
+use mathlib.Core.Path.{◌≡◌, sym, subst}
+use mathlib.Core.Bool.{true}
 use mathlib.Core.Logic.{◌↔◌}
 use mathlib.Core.List.{List}
-use Prim.Native.Nat.{ℕ, ◌^◌, ◌<◌}
+use Prim.Native.Nat.{ℕ, ◌^◌}
 use lib.Pow.{pow_pos}
 use lib.Bits.{xor_self, xor_zero_r}
 use Rattle.gf2.specs.Bits.{◌⊕◌}

@@ -1,7 +1,7 @@
 -- `closure_set::closure_set` meets its contract: after i turns the vectors are left that take the first i on points to allowed ones. Assumes nothing.
 use mathlib.Core.Path.{ap, ap₂, ◌∙◌, fun_ext}
 use mathlib.Core.Bool.{Bool, ◌&&◌}
-use Prim.Native.Nat.{ℕ, ◌-◌}
+use Prim.Native.Nat.{ℕ}
 use native.Mathlib.Omega.{arith}
 use lib.Seq.{take_all}
 use Rattle.gf2.specs.Bits.{◌⊕◌}

@@ -1,10 +1,9 @@
 -- `closure_set::spread_points` meets its contract: the vectors from place i on are what is left to be spread over. Assumes nothing.
 use mathlib.Core.Path.{sym, ap, ◌∙◌, fun_ext}
 use mathlib.Core.Bool.{Bool}
-use Prim.Native.Nat.{ℕ, ◌+◌, ◌-◌, ◌<◌}
+use Prim.Native.Nat.{ℕ, ◌+◌}
 use native.Mathlib.Omega.{arith}
 use lib.ListN.{drop, get_or}
-use Rattle.gf2.specs.Limits.{max_variables}
 use Rattle.basis.specs.Reduced.{vectors_of}
 use Rattle.basis.proofs.Values.{vector-room, vector-mem, vector-next, vector-end}
 use Rattle.point_sets.specs.Sets.{member}
@@ -12,7 +11,6 @@ use Rattle.cubes.specs.Primes.{some_point}
 use Rattle.closure_set.specs.ClosureSet.{spread}
 use Rattle.closure_set.proofs.Steps.{spread-next}
 use Rattle.closure_set.proofs.spread_points.Goals as goal
-use Rattle.closure_set.proofs.spread_points.Goals.{After-points-1}
 
 pub loop-i-init : goal.loop-i-init
 unfolding spread
@@ -20,15 +18,11 @@ loop-i-init c =
     (omega arith, λ w. ap (λ (t : ℕ → Bool). some_point t (vectors_of c.args.basis) w) (fun_ext c.set_of-points.ensures))
 
 -- The vector at place i is one of the basis, and there is room for it.
-room : (c : After-points-1) → c.loop-i.i < max_variables
-room c =
-    vector-room c.args.basis c.requires.basis_within.basis c.loop-i.i c.loop-i-test.true
-
 pub offset_bounds-vectors-i : goal.offset_bounds-vectors-i
-offset_bounds-vectors-i c = omega (arith, room c)
+offset_bounds-vectors-i c = omega (arith, vector-room c.args.basis c.requires.basis_within.basis c.loop-i.i c.loop-i-test.true)
 
 pub bounds-vectors-i : goal.bounds-vectors-i
-bounds-vectors-i c = room c
+bounds-vectors-i c = vector-room c.args.basis c.requires.basis_within.basis c.loop-i.i c.loop-i-test.true
 
 pub moved_set-moved-requires : goal.moved_set-moved-requires
 moved_set-moved-requires c =

@@ -11,7 +11,12 @@ use Rattle.subspace_search.proofs.Steps.{longer-none}
 use Rattle.subspace_search.proofs.largest_in.Goals as goal
 
 pub search-found-requires : goal.search-found-requires
-search-found-requires c = (refl, (refl, ((c.requires.n_le_set_variables, omega arith), c.following_words-words.ensures)))
+search-found-requires c = record {
+  best_value = refl;
+  prefix_value = refl;
+  n_le_set_variables = (c.requires.n_le_set_variables, omega arith);
+  words_value = c.following_words-words.ensures;
+}
 
 pub returns : goal.returns
 returns c =
