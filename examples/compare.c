@@ -3,7 +3,7 @@
  * nothing is printed there, its file, `refused N` and why go to standard error, with the place of the byte at fault where there is one, and the exit
  * status is 1. To build and run it, in the folder of the repository:
  *
- *     rt check pla_to_table && rt staticlib glospruma
+ *     bash tools/build
  *     cc -Iinclude examples/compare.c target/staticlib/libglospruma.a -o target/compare
  *     target/bin/pla_to_table <examples/short_tons.pla >target/short_tons.table
  *     target/bin/pla_to_table <examples/tonnes.pla >target/tonnes.table

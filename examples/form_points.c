@@ -2,7 +2,7 @@
  * rising, `-` if there are none. If the bytes aren't a form, nothing is printed there, `refused N`, the place of the byte at fault and why go to
  * standard error, and the exit status is 1. To build and run it, in the folder of the repository:
  *
- *     rt staticlib glospruma
+ *     bash tools/build glospruma
  *     cc -Iinclude examples/form_points.c target/staticlib/libglospruma.a -o target/form_points
  *     printf 'N\003PX\001\007\000E\001\000' | target/form_points
  */

@@ -4,7 +4,7 @@
  * refused, nothing is printed there, `refused N` and why goes to standard error, with the place of the byte at fault where there is one, and the exit status
  * is 1. To build and run it, in the folder of the repository:
  *
- *     rt check pla_to_table && rt staticlib glospruma
+ *     bash tools/build
  *     cc -Iinclude examples/primes.c target/staticlib/libglospruma.a -o target/primes
  *     target/bin/pla_to_table <examples/p5_free.pla | target/primes
  */

@@ -2,7 +2,7 @@
  * nothing is written there, `refused N` and why goes to standard error, with the place of the byte at fault where there is one, and the exit status
  * is 1. To build and run it, in the folder of the repository:
  *
- *     rt staticlib glospruma
+ *     bash tools/build glospruma
  *     cc -Iinclude examples/write_form.c target/staticlib/libglospruma.a -o target/write_form
  *     target/write_form <tests/vectors/00005-p5.table | od -An -tx1
  */

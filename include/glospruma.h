@@ -1,4 +1,4 @@
-/* The public calls of Glospruma, for C (C99 or later) and C++ on x86-64 Linux. Build the library with `rt staticlib glospruma` and link
+/* The public calls of Glospruma, for C (C99 or later) and C++ on x86-64 Linux. Build the library with `bash tools/build glospruma` and link
  * target/staticlib/libglospruma.a, which needs nothing but memcpy and memset of the C library:
  *
  *     cc -Iinclude program.c target/staticlib/libglospruma.a

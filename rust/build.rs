@@ -18,7 +18,7 @@ fn main() {
     println!("cargo:rerun-if-changed={}", archive.display());
     if !archive.is_file() {
         eprintln!(
-            "{} is missing: build it with `rt staticlib glospruma` in the folder of the repository, \
+            "{} is missing: build it with `bash tools/build glospruma` in the folder of the repository, \
              or name the folder that has it in {VARIABLE}, as an absolute path",
             archive.display()
         );

@@ -97,7 +97,7 @@
 //!
 //! [`raw`] has the same calls with their numbers as they come.
 //!
-//! To build: `rt staticlib glospruma` in the folder of the repository, once, and
+//! To build: `bash tools/build glospruma` in the folder of the repository, once, and
 //! then cargo finds the library by itself; the environment variable
 //! `GLOSPRUMA_LIB_DIR` names another folder to look for `libglospruma.a` in.
 

@@ -5,7 +5,7 @@ use Rattle.std.specs.Int.Bits.{bit_xor}
 
 infixl 65 ◌⊕◌
 infixl 30 ◌⊻◌
--- XOR of two numbers. That it is the XOR of their bits, place by place, is `bit_xor`.
+-- XOR of two numbers. That it is the XOR of their bits, place by place, is `bit-xor`.
 abbrev pub ◌⊕◌ : ℕ → ℕ → ℕ
 ◌⊕◌ = bit_xor
 
