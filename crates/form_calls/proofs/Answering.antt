@@ -39,5 +39,6 @@ form-found bytes e = e
 
 -- A slice of bytes is a list of bytes.
 pub slice-bytes : (bytes : List ℕ) → ((i : ℕ) → get_or bytes i 0 < 256) → Bytes bytes
+slice-bytes mathlib.Core.List.[] h byte m = elim m [ ]
 slice-bytes (b ∷ bytes) h byte (inl e) = rw e (h 0)
 slice-bytes (b ∷ bytes) h byte (inr m) = slice-bytes bytes (λ i. h (suc i)) byte m

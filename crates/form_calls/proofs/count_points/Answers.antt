@@ -1,8 +1,7 @@
 -- `form_calls::count_points` meets its contract: the points passed are counted. Assumes nothing.
-use Prim.Native.Nat.{ℕ, ◌-◌}
+use Prim.Native.Nat.{ℕ}
 use mathlib.Core.Path.{◌≡◌, refl, sym, ap, ◌∙◌}
 use mathlib.Core.Bool.{true, false}
-use mathlib.Core.Logic.{⊎_elim}
 use native.Mathlib.Omega.{arith}
 use lib.ListN.{length}
 use Rattle.gf2.specs.Finite.{select}
@@ -11,6 +10,7 @@ use Rattle.table.proofs.Selecting.{count-step}
 use Rattle.form.specs.Form.{form_at}
 use Rattle.form.specs.Decoding.{decode_form}
 use Rattle.form_calls.proofs.count_points.Goals as goal
+use Rattle.form_calls.proofs.count_points.Goals.{then-form_at, else-form_at}
 
 pub loop-point-init : goal.loop-point-init
 unfolding select
@@ -28,10 +28,10 @@ loop-point-preserved c =
     let a = c.args in
     let t = form_at (decode_form a.bytes.now) in (
       omega arith,
-      ⊎_elim
-          (λ w. count-step t l.point l.count c.if-form_at.count l.invariant.1 true (sym c.form_at.ensures ∙ w.0.true) w.1)
-          (λ w. count-step t l.point l.count c.if-form_at.count l.invariant.1 false (sym c.form_at.ensures ∙ w.0.left) w.1)
-          c.if-form_at.branch,
+      elim c.if-form_at.branch [
+        | then-form_at w ↦ count-step t l.point l.count c.if-form_at.count l.invariant.1 true (sym c.form_at.ensures ∙ w.if-form_at.true) w.count-is
+        | else-form_at w ↦ count-step t l.point l.count c.if-form_at.count l.invariant.1 false (sym c.form_at.ensures ∙ w.if-form_at.false) w.count-is
+      ],
     )
 
 pub returns : goal.returns

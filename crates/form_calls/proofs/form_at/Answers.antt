@@ -2,8 +2,9 @@
 -- whole form. Assumes nothing.
 use mathlib.Core.Path.{◌≡◌, sym, ap, ◌∙◌}
 use mathlib.Core.Bool.{Bool, true, ◌&&◌, ◌||◌}
-use Prim.Native.Nat.{ℕ, ◌≤◌, ◌+◌, ◌-◌}
+use Prim.Native.Nat.{ℕ, ◌≤◌, ◌+◌}
 use native.Mathlib.Omega.{arith}
+use borrow.Author.Rules.{rules}
 use lib.ListN.{length, drop}
 use Rattle.product.specs.Product.{factor_at}
 use Rattle.form.specs.Decoding.{factor_of, parts_from}
@@ -74,5 +75,4 @@ loop-holds-preserved c =
 pub returns-in_default : goal.returns-in_default
 returns-in_default c =
     let a = c.args in
-    let r = c.in-80.rest in
-    sym (end-at a.bytes.now c.loop-holds.place c.loop-holds.invariant.0 r.0.1 r.1 c.loop-holds.holds a.point) ∙ c.loop-holds.invariant.1
+    sym (end-at a.bytes.now c.loop-holds.place c.loop-holds.invariant.0 (search rules) (search rules) c.loop-holds.holds a.point) ∙ c.loop-holds.invariant.1

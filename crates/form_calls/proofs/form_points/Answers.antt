@@ -2,7 +2,7 @@
 -- Assumes nothing.
 use mathlib.Core.Path.{◌≡◌, refl, sym, ap, ◌∙◌}
 use mathlib.Core.List.{List}
-use Prim.Native.Nat.{ℕ}
+use Prim.Native.Nat.{ℕ, ◌<◌, ◌≤◌}
 use native.Mathlib.Omega.{arith}
 use lib.ListN.{length}
 use Rattle.gf2.specs.Finite.{select}
@@ -12,7 +12,7 @@ use Rattle.form.specs.Form.{form_at}
 use Rattle.form.specs.Decoding.{form_variables, decode_form}
 use Rattle.form.specs.Refusal.{IsForm, form_fault}
 use Rattle.form.proofs.Accepting.{accepted-form, form-begins}
-use Rattle.form_calls.specs.Reading.{points_read}
+use Rattle.form_calls.specs.Reading.{points_read, points_refused}
 use Rattle.form_calls.proofs.Answering.{points-below, points-ways, form-found}
 use Rattle.form_calls.proofs.form_points.Goals as goal
 use Rattle.form_calls.proofs.form_points.Goals.{After-count_points-count, After-point_count-size, Else-fault-ne0}
@@ -20,44 +20,43 @@ use Rattle.form_calls.proofs.form_points.Goals.{After-count_points-count, After-
 pub returns-then-fault-ne0 : goal.returns-then-fault-ne0
 returns-then-fault-ne0 c =
     let a = c.args in
-    (points-ways a.bytes.now a.room.now).faulty c.form_fault-fault.result (form-found a.bytes.now c.form_fault-fault.ensures) c.if-fault-ne0.true _ refl
-
--- The bytes and the room, as the call was given them.
-abbrev given : Else-fault-ne0 → Start
-given c = c.before.before.before.before.before
+    let h = (points-ways a.bytes.now a.room.now).faulty c.form_fault-fault.result (form-found a.bytes.now c.form_fault-fault.ensures) c.if-fault-ne0.true (points_refused c.form_fault-fault.result.place c.form_fault-fault.result.number) refl in
+    record { value = h.0; room_after = h.1 }
 
 -- Past the first test the bytes are a form.
-sound : (c : Else-fault-ne0) → form_fault (given c).args.bytes.now ≡ 0
-sound c = sym (ap (λ (f : Fault). f.number) (form-found (given c).args.bytes.now c.form_fault-fault.ensures)) ∙ c.if-fault-ne0.false
+sound : (c : Else-fault-ne0) → form_fault c.args.bytes.now ≡ 0
+sound c = sym (ap (λ (f : Fault). f.number) (form-found c.args.bytes.now c.form_fault-fault.ensures)) ∙ c.if-fault-ne0.false
 
-accepted : (c : Else-fault-ne0) → IsForm (given c).args.bytes.now
-accepted c = (accepted-form (given c).args.bytes.now).0 (sound c)
+accepted : (c : Else-fault-ne0) → IsForm c.args.bytes.now
+accepted c = (accepted-form c.args.bytes.now).0 (sound c)
 
 pub bounds-bytes-1 : goal.bounds-bytes-1
-bounds-bytes-1 c = (form-begins (given (goal.at.bounds-bytes-1 c).Else-fault-ne0).args.bytes.now (accepted (goal.at.bounds-bytes-1 c).Else-fault-ne0)).0
+bounds-bytes-1 c = (form-begins c.args.bytes.now (accepted (goal.at.bounds-bytes-1 c).Else-fault-ne0)).0
 
 pub overflow_cast-n : goal.overflow_cast-n
-overflow_cast-n c = omega (arith, (form-begins (given (goal.at.overflow_cast-n c).Else-fault-ne0).args.bytes.now (accepted (goal.at.overflow_cast-n c).Else-fault-ne0)).1)
+overflow_cast-n c = omega (arith, (form-begins c.args.bytes.now (accepted (goal.at.overflow_cast-n c).Else-fault-ne0)).1)
 
 pub point_count-size-requires : goal.point_count-size-requires
-point_count-size-requires c = (form-begins (given (goal.at.point_count-size-requires c).Else-fault-ne0).args.bytes.now (accepted (goal.at.point_count-size-requires c).Else-fault-ne0)).1
+point_count-size-requires c = (form-begins c.args.bytes.now (accepted (goal.at.point_count-size-requires c).Else-fault-ne0)).1
 
 pub count_points-count-requires : goal.count_points-count-requires
 count_points-count-requires c = accepted (goal.at.count_points-count-requires c).Else-fault-ne0
 
 -- The points below the bound that the code takes are all of them, and the count is theirs.
 points : (c : After-point_count-size)
-    → let bytes = (given c{-Else-fault-ne0-}).args.bytes.now in
+    → let bytes = c.args.bytes.now in
     select (form_at (decode_form bytes)) c.point_count-size.result ≡ points_read bytes
-points c = points-below (given c{-Else-fault-ne0-}).args.bytes.now c.point_count-size.ensures
+points c = points-below c.args.bytes.now c.point_count-size.ensures
 
-counted : (c : After-count_points-count) → c.count_points-count.result ≡ length (points_read (given c{-Else-fault-ne0-}).args.bytes.now)
-counted c = c.count_points-count.ensures ∙ ap length (points c{-After-point_count-size-})
+counted : (c : After-count_points-count) → c.count_points-count.result ≡ length (points_read c.args.bytes.now)
+counted c = c.count_points-count.ensures ∙ ap length (points-below c.args.bytes.now c.point_count-size.ensures)
 
 pub returns-then-room-count : goal.returns-then-room-count
 returns-then-room-count c =
-    let a = (given (goal.at.returns-then-room-count c).Else-fault-ne0).args in
-    (points-ways a.bytes.now a.room.now).short (sound (goal.at.returns-then-room-count c).Else-fault-ne0) (omega (arith, counted (goal.at.returns-then-room-count c).After-count_points-count)) _ refl
+    let a = c.args in
+    let less : length a.room.now < length (points_read a.bytes.now) = omega (arith, counted (goal.at.returns-then-room-count c).After-count_points-count) in
+    let h = (points-ways a.bytes.now a.room.now).short (sound (goal.at.returns-then-room-count c).Else-fault-ne0) less (points_refused 0 7) refl in
+    record { value = h.0; room_after = h.1 }
 
 pub write_points-requires : goal.write_points-requires
 write_points-requires c =
@@ -68,7 +67,11 @@ write_points-requires c =
 
 pub returns : goal.returns
 returns c =
-    let a = (given (goal.at.returns c).Else-fault-ne0).args in
-    (points-ways a.bytes.now a.room.now).whole (sound (goal.at.returns c).Else-fault-ne0) (omega (arith, counted (goal.at.returns c).After-count_points-count, c.if-room-count.false)) _ _
-    (ap (λ (k : ℕ). record { refusal = 0; place = 0; variables = form_variables a.bytes.now; count = k }) (counted (goal.at.returns c).After-count_points-count))
-    (c.write_points.ensures ∙ ap (λ (l : List ℕ). front l a.room.now) (points (goal.at.returns c).After-point_count-size))
+    let a = c.args in
+    let e = (goal.at.returns c).Else-fault-ne0 in
+    let n = counted (goal.at.returns c).After-count_points-count in
+    let some : length (points_read a.bytes.now) ≤ length a.room.now = omega (arith, n) in
+    let h = (points-ways a.bytes.now a.room.now).whole (sound e) some _ _
+    (ap (λ (k : ℕ). record { refusal = 0; place = 0; variables = form_variables a.bytes.now; count = k }) n)
+    (c.write_points.ensures ∙ ap (λ (l : List ℕ). front l a.room.now) (points (goal.at.returns c).After-point_count-size)) in
+    record { value = h.0; room_after = h.1 }

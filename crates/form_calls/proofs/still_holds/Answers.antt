@@ -1,15 +1,14 @@
 -- `form_calls::still_holds` meets its contract: the factor counts only where the product held the point so far. Assumes nothing.
 use mathlib.Core.Path.{ap, ◌∙◌}
-use borrow.Author.Tests.{not-true, not-false}
 use Rattle.product.specs.Product.{Factor, factor_at}
 use Rattle.form.proofs.Walking.{factor-read}
 use Rattle.form_calls.proofs.still_holds.Goals as goal
 
 pub returns-then-not-holds : goal.returns-then-not-holds
-returns-then-not-holds c = rw (not-true c.args.holds c.if-not-holds.true)
+returns-then-not-holds c = rw (c.if-not-holds.true)
 
 pub returns : goal.returns
 returns c =
     let a = c.args in
-    rw (not-false a.holds c.if-not-holds.false)
+    rw (c.if-not-holds.false)
     (c.factor_at.ensures ∙ rw c.mask_at.ensures (ap (λ (f : Factor). factor_at f a.point) (factor-read a.bytes.now a.place)))
