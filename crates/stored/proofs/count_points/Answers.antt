@@ -1,7 +1,5 @@
 -- `stored::count_points` meets its contract. The loop's invariant: the points of the records passed are counted. Assumes nothing.
 use mathlib.Core.Path.{◌≡◌, refl, sym, ap, ◌∙◌}
-use mathlib.Core.Logic.{⊎_elim}
-use Prim.Native.Nat.{◌-◌}
 use native.Mathlib.Omega.{arith}
 use borrow.Author.Rules.{rules}
 use lib.ListN.{length, take}
@@ -31,7 +29,7 @@ loop-i-preserved c =
       omega arith,
       c.loop-i.invariant.1,
       elim c.if-is_marked.branch [
-        then-is_marked w ↦ omega (arith, count-more a.on ms c.loop-i.i (omega arith) (sym c.is_marked.ensures ∙ w.if-is_marked.true))
+        | then-is_marked w ↦ omega (arith, count-more a.on ms c.loop-i.i (omega arith) (sym c.is_marked.ensures ∙ w.if-is_marked.true))
         | else-is_marked w ↦ omega (arith, ap length (points-same a.on ms c.loop-i.i (omega arith) (sym c.is_marked.ensures ∙ w.if-is_marked.false)))
       ],
     )

@@ -1,7 +1,7 @@
 -- `stored::first_step` meets its contract: the decision over the first byte, then the kind that it gives. Assumes nothing.
 use mathlib.Core.Path.{◌≡◌, refl, sym, ◌∙◌}
 use mathlib.Core.Logic.{◌≢◌}
-use mathlib.Core.List.{List, [], ◌∷◌}
+use mathlib.Core.List.{List}
 use Prim.Native.Nat.{ℕ}
 use lib.ListN.{drop, get_or}
 use Rattle.records.specs.declared.Kind.{Kind}

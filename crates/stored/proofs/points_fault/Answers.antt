@@ -14,7 +14,7 @@ counted : (c : After-bad_count) → bad_count (stored_variables c.args.bytes.now
 counted c = ap bad_count (sym c.variables-n.ensures) ∙ sym c.bad_count.ensures
 
 surveyed : (c : After-points_outside)
-    →    let bytes = c.args.bytes.now in
+    → let bytes = c.args.bytes.now in
     outside (stored_variables bytes) (stored_points bytes) ≡ c.points_outside.result
 surveyed c =
     ap (λ (n : ℕ). outside n (stored_points c.args.bytes.now)) (sym c.variables-n.ensures) ∙ sym c.points_outside.ensures

@@ -1,5 +1,5 @@
 -- `stored::walk_records` meets its contract: the walk from the place that the loop has come to is the walk from the start. Assumes nothing.
-use Prim.Native.Nat.{◌≤◌, ◌+◌, ◌-◌}
+use Prim.Native.Nat.{◌≤◌, ◌+◌}
 use mathlib.Core.Path.{◌≡◌, refl, sym, ◌∙◌}
 use native.Mathlib.Omega.{arith}
 use borrow.Author.Rules.{rules}
@@ -50,11 +50,11 @@ loop-place-smaller c = omega (arith, there c)
 
 pub loop-place-preserved : goal.loop-place-preserved
 loop-place-preserved c = (
-      there c,
-      omega arith,
-      sym (walk-goes table_step count_passed bytes_missing c.args.bytes.now c.loop-place.count c.loop-place.place (omega arith) c.in-Whole.length (body c) (step c))
-          ∙ c.loop-place.invariant.2,
-    )
+  there c,
+  omega arith,
+  sym (walk-goes table_step count_passed bytes_missing c.args.bytes.now c.loop-place.count c.loop-place.place (omega arith) c.in-Whole.length (body c) (step c))
+      ∙ c.loop-place.invariant.2,
+)
 
 pub returns : goal.returns
 returns c =

@@ -1,7 +1,6 @@
 -- `stored::write_points` meets its contract. The loop's invariant: the points of the records passed are written. Assumes nothing.
 use mathlib.Core.Path.{sym, ◌∙◌}
-use mathlib.Core.Logic.{⊎_elim}
-use Prim.Native.Nat.{◌<◌, ◌-◌}
+use Prim.Native.Nat.{◌<◌}
 use native.Mathlib.Omega.{arith}
 use borrow.Author.Rules.{rules}
 use lib.ListN.{length, get_or-map}
@@ -49,13 +48,13 @@ loop-i-preserved c =
       omega arith,
       c.loop-i.invariant.1,
       elim c.if-is_marked.branch [
-        then-is_marked w ↦ (
-          let point = w.point_at.ensures ∙ get_or-map (λ (m : Mark). m.point) ms c.loop-i.i no_mark in
-          rw (w.room-is, w.at-is, point)
-          (written-more a.on ms a.room.now c.loop-i.i c.loop-i.at c.loop-i.room (omega arith) c.loop-i.invariant.2 c.requires.bytes_in_bounds (sym c.is_marked.ensures ∙ w.if-is_marked.true)))
+        | then-is_marked w ↦ (
+            let point = w.point_at.ensures ∙ get_or-map (λ (m : Mark). m.point) ms c.loop-i.i no_mark in
+            rw (w.room-is, w.at-is, point)
+            (written-more a.on ms a.room.now c.loop-i.i c.loop-i.at c.loop-i.room (omega arith) c.loop-i.invariant.2 c.requires.bytes_in_bounds (sym c.is_marked.ensures ∙ w.if-is_marked.true)))
         | else-is_marked w ↦
-          rw (w.room-is, w.at-is)
-          (written_same a.on ms a.room.now c.loop-i.i c.loop-i.at c.loop-i.room (omega arith) c.loop-i.invariant.2 (sym c.is_marked.ensures ∙ w.if-is_marked.false))
+            rw (w.room-is, w.at-is)
+            (written_same a.on ms a.room.now c.loop-i.i c.loop-i.at c.loop-i.room (omega arith) c.loop-i.invariant.2 (sym c.is_marked.ensures ∙ w.if-is_marked.false))
       ],
     )
 
