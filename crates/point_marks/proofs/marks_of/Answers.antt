@@ -1,7 +1,7 @@
 -- `point_marks::marks_of` meets its contract. The loop's invariant: the records from place i on are what is left to be put in. Assumes nothing.
 use mathlib.Core.Path.{◌≡◌, refl, sym, ◌∙◌}
 use mathlib.Core.List.{[]}
-use Prim.Native.Nat.{◌-◌, ◌<◌}
+use Prim.Native.Nat.{◌<◌}
 use native.Mathlib.Omega.{arith}
 use borrow.Author.Rules.{rules}
 use lib.Pow.{pow_mono}
@@ -15,26 +15,21 @@ use Rattle.point_marks.proofs.Marks.{put_marks, put_next, marks-at}
 use Rattle.point_marks.proofs.marks_of.Goals as goal
 use Rattle.point_marks.proofs.marks_of.Goals.{After-flag_place-place, In-loop-i}
 
-record-count-requires : Need-record-count-requires invariant-loop decreases-loop
-
-record-count-requires c κs = stored-laid c.before.args.bytes.now c.before.requires
+pub record_count-count-requires : goal.record_count-count-requires
+record_count-count-requires c = stored-laid c.args.bytes.now c.requires
 
 pub loop-i-init : goal.loop-i-init
 loop-i-init c = (search rules, c.record_count-count.ensures, refl, refl)
 
 -- In the loop: the record is one of the table, and the table is laid out.
 listed : (c : In-loop-i) → let bytes = c.args.bytes.now in LaidOut bytes × (c.loop-i.i < length (marks bytes))
-listed c =(stored-laid c.args.bytes.now c.requires, omega (arith, c.loop-i.invariant.1))
+listed c = (stored-laid c.args.bytes.now c.requires, omega (arith, c.loop-i.invariant.1))
 
 pub point_at-requires : goal.point_at-requires
-point_at-requires c = listed c
+point_at-requires c = let k = listed c in record { laid_out = k.0; i_in_bounds = k.1 }
 
 pub is_marked-requires : goal.is_marked-requires
-is_marked-requires c = listed (goal.at.is_marked-requires c).In-loop-i
-
-record-mark-requires : Need-record-mark-requires invariant-loop decreases-loop
-
-record-mark-requires c κs = search rules
+is_marked-requires c = let k = listed (goal.at.is_marked-requires c).In-loop-i in record { laid_out = k.0; i_in_bounds = k.1 }
 
 -- The place is that of the record's point, and its mark is the record's.
 placed : (c : After-flag_place-place)

@@ -9,7 +9,7 @@ use Rattle.point_marks.proofs.Marks.{put_marks}
 use Rattle.point_marks.proofs.marks_of.Given as goal
 
 abbrev pub invariant-loop-i : goal.invariant-loop-i
-invariant-loop-i l = (l.i ≤ l.count) × (l.count ≡ length (marks l.bytes)) × (length l.array ≡ max_points) × (put_marks (drop l.i (marks l.bytes)) l.array ≡ put_marks (marks l.bytes) (replicate max_points off_mark))
+invariant-loop-i l = (l.i ≤ l.count) × (l.count ≡ length (marks l.bytes)) × (length l.marks ≡ max_points) × (put_marks (drop l.i (marks l.bytes)) l.marks ≡ put_marks (marks l.bytes) (replicate max_points off_mark))
 
 abbrev pub decreases-loop-i : goal.decreases-loop-i
 decreases-loop-i l = l.count - l.i
