@@ -25,12 +25,12 @@ fn report_of(input: &[u8], count: usize, text: &mut [u8]) -> usize
     written.length
 }
 
-fn main() {
+fn main(rt: HostRuntime) {
     let mut input = [0u8; STORED_ROOM];
-    let Input::Bytes(count) = streams::read_input(&mut input) else {
+    let Input::Bytes(count) = streams::read_input(&rt, &mut input) else {
         return;
     };
     let mut text = [0u8; TEXT_ROOM];
     let length = report_of(&input, count, &mut text);
-    streams::print(&text[..length]);
+    streams::print(&rt, &text[..length]);
 }

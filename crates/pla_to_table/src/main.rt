@@ -11,6 +11,7 @@ ghost use Rattle.pla_to_table.specs.Choosing.{chosen_output};
 ghost use Rattle.pla_to_table.specs.Messages.{message_room, refused_message};
 ghost use Rattle.pla_to_table.specs.Answer.{pla_room, written, Stands};
 
+use std::env::{Env, FillError};
 use streams::Input;
 
 // The longest text that is read, and one byte more, by which a longer one is known.
@@ -105,19 +106,29 @@ fn answer_text(
     }
 }
 
-fn main() {
+// How many words started the program, its own name among them.
+fn word_count(rt: &impl Env) -> usize {
+    for i in 0..usize::MAX {
+        if matches!(rt.arg(i, &mut []), Err(FillError::NotPresent)) {
+            return i;
+        }
+    }
+    usize::MAX
+}
+
+fn main(rt: HostRuntime) {
     let mut input = text_room();
-    let Input::Bytes(count) = streams::read_input(&mut input) else {
+    let Input::Bytes(count) = streams::read_input(&rt, &mut input) else {
         return;
     };
     let mut argument = [0u8; ARGUMENT_ROOM];
-    let length = os::arg(1, &mut argument);
-    let output = chosen(os::arg_count(), &argument[..length]);
+    let length = rt.arg(1, &mut argument).unwrap_or(0);
+    let output = chosen(word_count(&rt), &argument[..length]);
     let mut table = table_room();
     let mut message = [0u8; MESSAGE_ROOM];
     let lengths = answer_text(&input, count, output, &mut table, &mut message);
     let table_length = lengths.table;
     let message_length = lengths.message;
-    streams::print(&table[..table_length]);
-    streams::complain(&message[..message_length]);
+    streams::print(&rt, &table[..table_length]);
+    streams::complain(&rt, &message[..message_length]);
 }
