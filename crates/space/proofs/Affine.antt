@@ -38,6 +38,7 @@ directions-reduced (p ∷ ps) = inserts-reduced [] (map (λ q. q ⊕ p) ps) tt
 
 pub affine-has : (ps : List ℕ) (q : ℕ) → Mem q ps → Coset (least_point ps) (directions ps) q
 unfolding least_point directions
+affine-has [] q h = elim h [ ]
 affine-has (p ∷ ps) q (inl e) = (coset-reduce (directions (p ∷ ps)) p q).0 (rw e (coset-self p (directions (p ∷ ps))))
 affine-has (p ∷ ps) q (inr m) = (coset-reduce (directions (p ∷ ps)) p q).0 (inserts-mem [] (map (λ z. z ⊕ p) ps) (q ⊕ p) (mem-map (λ z. z ⊕ p) ps q m))
 

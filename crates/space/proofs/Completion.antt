@@ -1,27 +1,27 @@
 -- Laws of specs.Completion: what the completed function is by the number of variables; the function of the largest space has that space for its linear
 -- space and no more (source 003, Theorem 1, for a largest space); on and off points are kept; the degree is never below k0 nor k1. Read next: Restriction.
-use mathlib.Core.Path.{◌≡◌, refl, sym, ap, ◌∙◌, subst}
-use mathlib.Core.Bool.{Bool, true, false, cond}
+use mathlib.Core.Path.{◌≡◌, sym, ap, ◌∙◌, subst}
+use mathlib.Core.Bool.{Bool, true, false}
 use mathlib.Core.Logic.{◌↔◌}
 use mathlib.Core.List.{List, ◌∷◌}
 use Prim.Native.Nat.{ℕ, ◌^◌, ◌≤◌, ◌<◌, max}
-use native.Mathlib.Nat.{lt_of_not-le, le_refl}
+use native.Mathlib.Nat.{lt_of_not-le}
 use native.Mathlib.Decide.{dec_le}
 use native.Mathlib.Omega.{arith}
 use lib.ListN.{length}
-use lib.Dec.{ltb, leb}
+use lib.Dec.{ltb}
 use borrow.Author.Tests.{ltb-true, ltb-false, lt-ltb, le-ltb, le-leb, lt-leb}
 use Rattle.gf2.specs.Bits.{◌⊕◌}
 use Rattle.gf2.specs.Finite.{Mem, holds, Rising, In}
 use Rattle.gf2.specs.Span.{Span}
-use Rattle.gf2.proofs.Logic.{clash, same, cond_cases, or_l, or-false}
+use Rattle.gf2.proofs.Logic.{clash, cond_cases, or_l, or-false}
 use Rattle.gf2.proofs.Finite.{cons-all, holds-mem, select-mem, mem-select, select-rising, select-holds}
 use Rattle.gf2.proofs.Span.{span-mem, span-least}
 use Rattle.table.proofs.Table.{refuted}
 use Rattle.cubes.specs.Primes.{allowed}
 use Rattle.subspaces.specs.Spaces.{LiesIn, Largest}
 use Rattle.subspaces.proofs.Spaces.{largest-own}
-use Rattle.closure_set.specs.ClosureSet.{closes, closure_set, largest_space, spread}
+use Rattle.closure_set.specs.ClosureSet.{closure_set, largest_space, spread}
 use Rattle.closure_set.proofs.ClosureSet.{closes-is, on-allowed, closure-mem, largest_space-is, spread-on, spread-allowed, spread_same}
 use Rattle.space.specs.Closure.{closed, linear_space, degree}
 use Rattle.space.specs.Completion.{all_off, all_on, k0, k1, simply_completed, max_searched, completed, completed_points}

@@ -31,6 +31,7 @@ use Rattle.space.proofs.Closure.{closed_at, linear-reduced, linear-span, linear-
 
 pub clean_at : (bs : List ℕ) (w : ℕ) → clean bs w ≡ true → (c : ℕ) → Mem c bs → has_lead c w ≡ false
 unfolding clean
+clean_at [] w e c h = elim h [ ]
 clean_at (b ∷ bs) w e c (inl q) = rw q (not-true (has_lead b w) (and_l (not (has_lead b w)) (clean bs w) e))
 clean_at (b ∷ bs) w e c (inr m) = clean_at bs w (and_r (not (has_lead b w)) (clean bs w) e) c m
 
@@ -76,6 +77,7 @@ digit false true p a b ha hb e = absurd (omega arith)
 digit false false p a b ha hb e = (refl, omega arith)
 
 pub number_same : (f g : ℕ → Bool) (ks : List ℕ) → number (map f ks) ≡ number (map g ks) → (k : ℕ) → Mem k ks → f k ≡ g k
+number_same f g [] e k h = elim h [ ]
 number_same f g (j ∷ ks) e k m = go (digit (f j) (g j) (2 ^ length ks) (number (map f ks)) (number (map g ks)) (number-below f ks) (number-below g ks)
     (sym (number_step f j ks) ∙ e ∙ number_step g j ks)) m (number_same f g ks)
   where
@@ -86,6 +88,7 @@ number_same f g (j ∷ ks) e k m = go (digit (f j) (g j) (2 ^ length ks) (number
 -- Of two numbers, the one with the highest bit in which they differ set is the larger.
 number-less : (f g : ℕ → Bool) (ks : List ℕ) → Ordered (λ (a b : ℕ). b < a) ks → (k : ℕ) → Mem k ks → f k ≡ false → g k ≡ true
     → ((j : ℕ) → k < j → f j ≡ g j) → number (map f ks) < number (map g ks)
+number-less f g [] d k m a b h = elim m [ ]
 number-less f g (i ∷ ks) d k (inl e) a b h =
     rw (number_step f i ks, number_step g i ks, subst (λ (z : ℕ). f z ≡ false) e a, subst (λ (z : ℕ). g z ≡ true) e b) (omega (arith, number-below f ks))
 number-less f g (i ∷ ks) d k (inr m) a b h =

@@ -1,26 +1,25 @@
 -- `space::first_witness` meets its contract. The inner loop's invariant: the points below p don't break closure under a; the outer one's: no
 -- point does under the vectors before the i-th. Assumes nothing.
-use mathlib.Core.Path.{refl, sym, ap, ◌∙◌, subst, subst⁻¹}
+use mathlib.Core.Path.{◌≡◌, refl, sym, ap, ◌∙◌, subst, subst⁻¹}
 use mathlib.Core.Logic.{inl, inr}
-use Prim.Native.Nat.{ℕ, ◌-◌, ◌<◌}
+use mathlib.Core.List.{List}
+use Prim.Native.Nat.{ℕ, ◌^◌, ◌≤◌, ◌<◌}
 use native.Mathlib.Nat.{not-suc-le-zero}
 use native.Mathlib.Numerals.{add-one}
 use native.Mathlib.Omega.{arith}
 use lib.Bits.{xor_lt}
-use lib.ListN.{take, get_or}
+use lib.ListN.{length, take, get_or}
 use lib.Pow.{pow_mono}
 use lib.Seq.{take-suc, take_all}
 use borrow.Author.Count.{below_more}
 use borrow.Author.Tests.{not-true, not-false}
 use Rattle.gf2.specs.Limits.{max_variables}
-use Rattle.gf2.specs.Bits.{◌⊕◌}
 use Rattle.gf2.specs.Finite.{Mem}
 use Rattle.gf2.proofs.Logic.{beq-eq, eq-beq, clash}
 use Rattle.gf2.proofs.Finite.{get_d-mem, mem-snoc, rising-before}
 use Rattle.table.specs.Flags.{max_points}
-use Rattle.space.specs.Witness.{flagged, Agrees}
+use Rattle.space.specs.Witness.{flagged, Agrees, Searchable}
 use Rattle.space.proofs.first_witness.Goals as goal
-use Rattle.space.proofs.first_witness.Goals.{In-loop-p}
 
 pub search-init : goal.search-init
 search-init c = (refl, λ u m. absurd m)
@@ -29,31 +28,29 @@ pub loop-p-init : goal.loop-p-init
 loop-p-init c = (c.search.invariant.0, λ q h. absurd (not-suc-le-zero h))
 
 -- Both flags that are compared are there.
-module _ (c : In-loop-p) where
-  vector-room : c.flag_place-vector.result < max_points
-  vector-room =
-      let i = c.search.i in
-      let vs = c.args.vectors.now in
-      omega (arith, c.flag_place-vector.ensures, c.requires.searchable.below (get_or vs i 0) (get_d-mem vs i 0 c.search-test.true), pow_mono c.requires.n_le_max_variables)
+vector-room : (n : ℕ) (vs : List ℕ) (i vector : ℕ) → n ≤ max_variables → Searchable n vs → i < length vs → vector ≡ get_or vs i 0 → vector < max_points
+vector-room n vs i vector few h l e = omega (arith, e, h.below (get_or vs i 0) (get_d-mem vs i 0 l), pow_mono few)
 
-  point-room : c.loop-p.p < max_points
-  point-room =
-      omega (arith, vector-room, c.flag_place-count.ensures, c.point_count.ensures, pow_mono c.requires.n_le_max_variables)
-
-  sum_room : c.loop-p.p ⊕ c.flag_place-vector.result < max_points
-  sum_room = xor_lt max_variables c.loop-p.p c.flag_place-vector.result point-room vector-room
+point-room : (n points count p : ℕ) → n ≤ max_variables → points ≡ 2 ^ n → count ≡ points → p < count → p < max_points
+point-room n points count p few e q l = omega (arith, pow_mono few)
 
 pub bounds-flags-p : goal.bounds-flags-p
-bounds-flags-p c = sum_room c
+bounds-flags-p c =
+    xor_lt max_variables c.loop-p.p c.flag_place-vector.result
+    (point-room c.args.n c.point_count.result c.flag_place-count.result c.loop-p.p c.requires.n_le_max_variables c.point_count.ensures c.flag_place-count.ensures c.loop-p-test.true)
+    (vector-room c.args.n c.args.vectors.now c.search.i c.flag_place-vector.result c.requires.n_le_max_variables c.requires.searchable c.search-test.true c.flag_place-vector.ensures)
 
 pub bounds-flags-p-in-loop-p : goal.bounds-flags-p-in-loop-p
-bounds-flags-p-in-loop-p c = point-room (goal.at.bounds-flags-p-in-loop-p c).After-way_told-1
+bounds-flags-p-in-loop-p c =
+    point-room c.args.n c.point_count.result c.flag_place-count.result c.loop-p.p c.requires.n_le_max_variables c.point_count.ensures c.flag_place-count.ensures c.loop-p-test.true
 
 pub overflow_cast-found : goal.overflow_cast-found
-overflow_cast-found c = omega (arith, point-room (goal.at.overflow_cast-found c).After-way_told-1)
+overflow_cast-found c =
+    omega (arith, point-room c.args.n c.point_count.result c.flag_place-count.result c.loop-p.p c.requires.n_le_max_variables c.point_count.ensures c.flag_place-count.ensures c.loop-p-test.true)
 
 pub loop-p-smaller : goal.loop-p-smaller
-loop-p-smaller c = omega (arith, point-room (goal.at.loop-p-smaller c).After-way_told-1)
+loop-p-smaller c =
+    omega (arith, point-room c.args.n c.point_count.result c.flag_place-count.result c.loop-p.p c.requires.n_le_max_variables c.point_count.ensures c.flag_place-count.ensures c.loop-p-test.true)
 
 pub loop-p-preserved : goal.loop-p-preserved
 loop-p-preserved c =

@@ -41,33 +41,29 @@ module _ (f : ℕ → Bool) (v : ℕ) (b : Basis) (e : b ≡ basis_of (inserts [
   kept : f v ≡ false → b ≡ basis_of (inserts [] (select f (v + 1)))
   kept k = rw add-one (e ∙ ap basis_of (sym (inserts-off f v k)))
 
--- Whether the function is closed under a vector.
-abbrev test : Start → ℕ → Bool
-test c = closed c.args.n (flagged c.args.flags.now)
-
 pub first_witness-requires : goal.first_witness-requires
 first_witness-requires c =
     record {
       n_le_max_variables = c.requires.n_le_max_variables;
-      searchable = record { rises = (λ b m. absurd m, tt); below = λ u m. elim m [ inl e ↦ rw e c.requires.v_bound.0 | inr k ↦ absurd k ] };
+      searchable = record { rises = (λ b m. absurd m, tt); below = λ u m. elim m [ inl e ↦ rw e c.requires.v_bound | inr k ↦ absurd k ] };
     }
 
 pub returns-in_default : goal.returns-in_default
 returns-in_default c =
     let a = c.args in
-    kept (test (goal.at.returns-in_default c).Start) a.v a.basis c.requires.v_bound.1
+    kept (closed a.n (flagged a.flags.now)) a.v a.basis c.requires.basis_value
     (witness-broken a.n (flagged a.flags.now) a.v c.first_witness.result c.first_witness.ensures _ _ c.in_default.is)
 
 pub insert-requires : goal.insert-requires
 insert-requires c =
     let l : c.args.v < 2 ^ max_variables = omega (arith, pow_mono c.requires.n_le_max_variables) in
     record {
-      basis = select-basis (test (goal.at.insert-requires c).Start) c.args.v (omega arith) c.args.basis c.requires.v_bound.1;
+      basis = select-basis (closed c.args.n (flagged c.args.flags.now)) c.args.v (omega arith) c.args.basis c.requires.basis_value;
       v_bound = l;
     }
 
 pub returns : goal.returns
 returns c =
     let a = c.args in
-    joined (test (goal.at.returns c).Start) a.v a.basis c.requires.v_bound.1 c.insert.result c.insert.ensures.value
+    joined (closed a.n (flagged a.flags.now)) a.v a.basis c.requires.basis_value c.insert.result c.insert.ensures.value
     (none-closed a.n (flagged a.flags.now) a.v c.first_witness.result c.first_witness.ensures c.in-None.is)

@@ -2,9 +2,9 @@
 -- and the mask has its lead bits. Assumes nothing.
 use mathlib.Core.Path.{◌≡◌, sym, ap, ◌∙◌, subst, subst⁻¹}
 use mathlib.Core.Bool.{Bool}
-use mathlib.Core.Logic.{inl, inr, ◌≢◌}
+use mathlib.Core.Logic.{◌≢◌}
 use mathlib.Core.List.{List, []}
-use Prim.Native.Nat.{ℕ, ◌+◌, ◌-◌, ◌^◌, ◌≤◌, ◌<◌}
+use Prim.Native.Nat.{ℕ, ◌+◌, ◌^◌, ◌≤◌, ◌<◌}
 use native.Mathlib.Numerals.{add-one}
 use native.Mathlib.Omega.{arith}
 use lib.Bits.{bit_and}
@@ -23,13 +23,14 @@ use Rattle.basis.specs.declared.Basis.{Basis}
 use Rattle.basis.specs.Short.{padded}
 use Rattle.basis.specs.Reduced.{vectors_of, basis_of, Built}
 use Rattle.basis.proofs.Values.{vectors-back, built, select-basis}
-use Rattle.space.specs.declared.Witness.TheVariants.{None}
+use Rattle.space.specs.declared.Witness.{Witness}
+use Rattle.space.specs.declared.Witness.TheVariants.{At, None}
 use Rattle.space.specs.Closure.{closed, linear_space}
 use Rattle.space.specs.Witness.{flagged, FirstWitness, Answers, Searchable}
 use Rattle.space.proofs.Closure.{closed_of, closed-broken, closed-space, closed-units, linear-reduced, linear-span, linear-below, linear-inserts}
 use Rattle.space.proofs.Steps.{mask-reducible}
 use Rattle.space.proofs.linear_space.Goals as goal
-use Rattle.space.proofs.linear_space.Goals.{After-first_witness, In-At}
+use Rattle.space.proofs.linear_space.Goals.{then-leads-v-eq0, else-leads-v-eq0}
 
 -- The basis of the vectors below v under which the function is closed.
 abbrev ClosedBelow : ℕ → (ℕ → Bool) → ℕ → Basis → Type 0
@@ -108,90 +109,88 @@ first_witness-requires c =
     record { n_le_max_variables = c.requires; searchable = rw (lent c.args.n f.result f.ensures.value) (searchable c.args.n) }
 
 -- What the search over the full basis found.
-answered : (c : After-first_witness)
-    → (let s = c.args in Answers (flagged s.flags.now) (2 ^ s.n) (units s.n) c.first_witness.result)
-answered c =
-    let s = c.args in
-    let f = c.full-full in
-    subst (λ (vs : List ℕ). Answers (flagged s.flags.now) (2 ^ s.n) vs c.first_witness.result) (lent s.n f.result f.ensures.value)
-    c.first_witness.ensures
+answered : (n : ℕ) (f : ℕ → Bool) (b : Basis) (w : Witness) → b ≡ basis_of (units n) → Answers f (2 ^ n) (take n b.vectors) w → Answers f (2 ^ n) (units n) w
+answered n f b w e h = subst (λ (vs : List ℕ). Answers f (2 ^ n) vs w) (lent n b e) h
+
+-- It is a witness at a.
+witnessed : (n : ℕ) (f : ℕ → Bool) (b : Basis) (w : Witness) (a p : ℕ) → w ≡ At a p → b ≡ basis_of (units n) → Answers f (2 ^ n) (take n b.vectors) w
+    → FirstWitness f (2 ^ n) (units n) a p
+witnessed n f b w a p q e h = rw q at (answered n f b w e h)
 
 pub returns-in_default : goal.returns-in_default
 returns-in_default c =
+    let n = c.args.n in
     let f = flagged c.args.flags.now in
     let full = c.full-full in
-    whole c.args.n f c.requires full.result
-    (full.ensures.value ∙ ap basis_of (none-full c.args.n f (rw c.in_default.is at (answered (goal.at.returns-in_default c).After-first_witness))))
-
--- The call, from the place where a witness is known, and from the loop.
-abbrev call : In-At invariant-loop decreases-loop → Start invariant-loop decreases-loop
-call c = c.before.before.before.before.before.before.before
-
-abbrev loop-call : At-loop-v invariant-loop decreases-loop → Start invariant-loop decreases-loop
-loop-call l = call l.before.before.before.before.before
-
-module _ (c : In-At) where
-  abbrev vars : ℕ
-  vars = (call c).args.n
-
-  abbrev func : ℕ → Bool
-  func = flagged (call c).args.flags.now
-
-  abbrev vector : ℕ
-  vector = c.in-At.a
-
-  abbrev point : ℕ
-  point = c.in-At.field-1
-
-  witnessed : FirstWitness func (2 ^ vars) (units vars) vector point
-  witnessed = rw c.in-At.is at (answered c{-After-first_witness-})
-
-  vector-pos : 0 < vector
-  vector-pos = pos vars func vector point witnessed
-
-  vector-low : vector < 2 ^ vars
-  vector-low = low vars func vector point witnessed
+    let w = answered n f full.result c.first_witness.result full.ensures.value c.first_witness.ensures in
+    whole n f c.requires full.result (full.ensures.value ∙ ap basis_of (none-full n f (rw c.in_default.is at w)))
 
 pub lead-requires : goal.lead-requires
-lead-requires c = vector-pos (goal.at.lead-requires c).In-At
+lead-requires c =
+    let n = c.args.n in
+    let f = flagged c.args.flags.now in
+    let full = c.full-full in
+    let w = witnessed n f full.result c.first_witness.result _ _ c.in-At.is full.ensures.value c.first_witness.ensures in
+    pos n f c.in-At.a c.in-At.field-1 w
 
 pub full-basis-requires : goal.full-basis-requires
 full-basis-requires c =
-    omega (arith, c.lead.ensures, lead-fits (vars (goal.at.full-basis-requires c).In-At) (vector (goal.at.full-basis-requires c).In-At) (vector-pos (goal.at.full-basis-requires c).In-At) (vector-low (goal.at.full-basis-requires c).In-At), (call (goal.at.full-basis-requires c).In-At).requires)
+    let n = c.args.n in
+    let f = flagged c.args.flags.now in
+    let full = c.full-full in
+    let a = c.in-At.a in
+    let p = c.in-At.field-1 in
+    let w = witnessed n f full.result c.first_witness.result _ _ c.in-At.is full.ensures.value c.first_witness.ensures in
+    omega (arith, c.lead.ensures, lead-fits n a (pos n f a p w) (low n f a p w), c.requires)
 
 pub overflow_add-v : goal.overflow_add-v
-overflow_add-v c = omega (arith, vector-low (goal.at.overflow_add-v c).In-At, pow_mono (call (goal.at.overflow_add-v c).In-At).requires)
+overflow_add-v c =
+    let n = c.args.n in
+    let f = flagged c.args.flags.now in
+    let full = c.full-full in
+    let w = witnessed n f full.result c.first_witness.result _ _ c.in-At.is full.ensures.value c.first_witness.ensures in
+    omega (arith, low n f c.in-At.a c.in-At.field-1 w, pow_mono c.requires)
 
 pub loop-v-init : goal.loop-v-init
 loop-v-init c =
+    let n = c.args.n in
+    let f = flagged c.args.flags.now in
+    let full = c.full-full in
+    let a = c.in-At.a in
+    let p = c.in-At.field-1 in
+    let w = witnessed n f full.result c.first_witness.result _ _ c.in-At.is full.ensures.value c.first_witness.ensures in
     let b = c.full-basis in (
-      started (vars (goal.at.loop-v-init c).In-At) (func (goal.at.loop-v-init c).In-At) (vector (goal.at.loop-v-init c).In-At) (point (goal.at.loop-v-init c).In-At) (witnessed (goal.at.loop-v-init c).In-At) b.result (b.ensures.value ∙ ap (λ (j : ℕ). basis_of (units j)) c.lead.ensures),
+      started n f a p w b.result (b.ensures.value ∙ ap (λ (j : ℕ). basis_of (units j)) c.lead.ensures),
       c.leads-leads.ensures,
       omega arith,
-      omega (arith, vector-low (goal.at.loop-v-init c).In-At),
+      omega (arith, low n f a p w),
     )
 
 pub grown-basis-requires : goal.grown-basis-requires
-grown-basis-requires c = ((loop-call (goal.at.grown-basis-requires c).At-loop-v).requires, (omega arith, c.loop-v.invariant.0))
+grown-basis-requires c = record { n_le_max_variables = c.requires; v_bound = omega arith; basis_value = c.loop-v.invariant.0 }
 
 pub leads-leads-requires-then-leads-v-eq0 : goal.leads-leads-requires-then-leads-v-eq0
 leads-leads-requires-then-leads-v-eq0 c =
-    let s = loop-call (goal.at.leads-leads-requires-then-leads-v-eq0 c).At-loop-v in
-    select-basis (closed s.args.n (flagged s.args.flags.now)) (c.loop-v.v + 1) (omega (arith, pow_mono s.pre)) c.grown-basis.result c.grown-basis.ensures
+    select-basis (closed c.args.n (flagged c.args.flags.now)) (c.loop-v.v + 1) (omega (arith, pow_mono c.requires)) c.grown-basis.result c.grown-basis.ensures
 
 pub overflow_add-v-in-loop-v : goal.overflow_add-v-in-loop-v
-overflow_add-v-in-loop-v c = omega (arith, pow_mono (loop-call (goal.at.overflow_add-v-in-loop-v c).At-loop-v).pre)
+overflow_add-v-in-loop-v c = omega (arith, pow_mono c.requires)
 
 pub loop-v-preserved : goal.loop-v-preserved
 loop-v-preserved c =
-    let s = (loop-call (goal.at.loop-v-preserved c).At-loop-v).args in
     let h = c.loop-v in
     let mask : (b d : Basis) → b ≡ d → lead_mask (vectors_of d) ≡ lead_mask (vectors_of b) = λ b d e. ap (λ (x : Basis). lead_mask (vectors_of x)) (sym e) in
     elim c.if-leads-v-eq0.branch [
-      | inl k ↦ (k.3 ∙ k.1.ensures, k.4 ∙ k.2.ensures ∙ mask _ _ k.3, omega arith, omega arith)
-      | inr k ↦ (
-        k.1 ∙ skipped s.n (flagged s.flags.now) h.v h.basis (omega arith) h.invariant.0 (λ e. k.0.left (ap (λ (m : ℕ). bit_and m h.v) h.invariant.1 ∙ e)),
-        k.2 ∙ h.invariant.1 ∙ mask _ _ k.1,
+      | then-leads-v-eq0 w ↦ (
+        w.basis-is ∙ w.grown-basis.ensures,
+        w.leads-is ∙ w.leads-leads-then-leads-v-eq0.ensures ∙ mask _ _ w.basis-is,
+        omega arith,
+        omega arith,
+      )
+      | else-leads-v-eq0 w ↦ (
+        w.basis-is ∙ skipped c.args.n (flagged c.args.flags.now) h.v h.basis (omega arith) h.invariant.0
+            (λ e. w.if-leads-v-eq0.false (ap (λ (m : ℕ). bit_and m h.v) h.invariant.1 ∙ e)),
+        w.leads-is ∙ h.invariant.1 ∙ mask _ _ w.basis-is,
         omega arith,
         omega arith,
       )
@@ -200,8 +199,7 @@ loop-v-preserved c =
 pub returns : goal.returns
 returns c =
     let h = c.loop-v in
-    let s = loop-call (goal.at.returns c).At-loop-v in
-    let n = s.args.n in
-    let f = flagged s.args.flags.now in
+    let n = c.args.n in
+    let f = flagged c.args.flags.now in
     let e : h.v ≡ 2 ^ n = omega arith in
-    whole n f s.pre h.basis (h.invariant.0 ∙ ap (λ (k : ℕ). basis_of (inserts [] (select (closed n f) k))) e ∙ ap basis_of (linear-inserts n f))
+    whole n f c.requires h.basis (h.invariant.0 ∙ ap (λ (k : ℕ). basis_of (inserts [] (select (closed n f) k))) e ∙ ap basis_of (linear-inserts n f))
