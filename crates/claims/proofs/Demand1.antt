@@ -136,21 +136,21 @@ unfolding holds keep has_place table_tests read_place compare_place read_answer 
 demand1 = record {
   read_table = λ bytes on free. decides _ _ _ _ (read_call bytes (length on) (length free)) _ refl refl refl refl refl (λ k. refl) refl (λ k. refl);
   compare = λ left right first room. decides _ _ _ _ (compare_call left right first room) _ refl refl refl refl refl (λ k. refl) refl (λ k. refl);
-  linear-space = λ n on. decides _ _ _ _ (linear_space_call n on) _ refl refl refl refl refl (λ k. ap (fault_at k) (no-places (linear_space_call n on).tests refl)) refl (λ k. refl);
+  linear_space = λ n on. decides _ _ _ _ (linear_space_call n on) _ refl refl refl refl refl (λ k. ap (fault_at k) (no-places (linear_space_call n on).tests refl)) refl (λ k. refl);
   complete = λ n on free room. decides _ _ _ _ (complete_call n on free room) _ refl refl refl refl refl (λ k. ap (fault_at k) (no-places (complete_call n on free room).tests refl)) refl (λ k. refl);
   analyse = λ n on free room. decides _ _ _ _ (analyse_call n on free room) _ refl refl refl refl refl (λ k. ap (fault_at k) (no-places (analyse_call n on free room).tests refl)) refl (λ k. refl);
   affine = λ n on room. decides _ _ _ _ (affine_call n on room) _ refl refl refl refl refl (λ k. ap (fault_at k) (no-places (affine_call n on room).tests refl)) refl (λ k. refl);
   never-shared = λ on. refuted (shared on []) (λ e. (shared-mem on [] e).2);
-  list-primes = λ n on free place allowance room. decides _ _ _ _ (listing_call (call_of n on free place allowance room)) _ refl refl refl refl refl (λ k. ap (fault_at k) (no-places (listing_call (call_of n on free place allowance room)).tests refl)) refl (λ k. refl);
-  write-form = λ n on free room. decides _ _ _ _ (write_call n on free room) _ refl refl refl refl refl (λ k. ap (fault_at k) (no-places (write_call n on free room).tests refl)) refl (λ k. refl);
-  form-points = λ bytes room. decides _ _ _ _ (points_call bytes room) _ refl refl refl refl refl (λ k. refl) refl (λ k. refl);
-  form-rewrite = λ bytes room. decides _ _ _ _ (rewrite_call bytes room) _ refl refl refl refl refl (λ k. refl) refl (λ k. refl);
-  index-build = λ form list. decides _ _ _ _ (build_call form (length list)) _ refl refl refl refl refl (λ k. refl) refl (λ k. refl);
-  index-build-list = λ form list. record { accepts = build-left form list; refuses = build-refused form list };
-  index-append = λ form product list room. decides _ _ _ _ (append_to form product list room) _ refl refl refl refl refl (λ k. refl) refl (λ k. refl);
-  index-append-list = append-lent;
-  index-remove = λ form list room. decides _ _ _ _ (remove_from form list room) _ refl refl refl refl refl (λ k. refl) refl (λ k. refl);
-  index-remove-list = remove-lent;
+  list_primes = λ n on free place allowance room. decides _ _ _ _ (listing_call (call_of n on free place allowance room)) _ refl refl refl refl refl (λ k. ap (fault_at k) (no-places (listing_call (call_of n on free place allowance room)).tests refl)) refl (λ k. refl);
+  write_form = λ n on free room. decides _ _ _ _ (write_call n on free room) _ refl refl refl refl refl (λ k. ap (fault_at k) (no-places (write_call n on free room).tests refl)) refl (λ k. refl);
+  form_points = λ bytes room. decides _ _ _ _ (points_call bytes room) _ refl refl refl refl refl (λ k. refl) refl (λ k. refl);
+  form_rewrite = λ bytes room. decides _ _ _ _ (rewrite_call bytes room) _ refl refl refl refl refl (λ k. refl) refl (λ k. refl);
+  index_build = λ form list. decides _ _ _ _ (build_call form (length list)) _ refl refl refl refl refl (λ k. refl) refl (λ k. refl);
+  index_build_list = λ form list. record { accepts = build-left form list; refuses = build-refused form list };
+  index_append = λ form product list room. decides _ _ _ _ (append_to form product list room) _ refl refl refl refl refl (λ k. refl) refl (λ k. refl);
+  index_append_list = append-lent;
+  index_remove = λ form list room. decides _ _ _ _ (remove_from form list room) _ refl refl refl refl refl (λ k. refl) refl (λ k. refl);
+  index_remove_list = remove-lent;
   report = λ bytes room. decides _ _ _ _ (report_call bytes room) _ refl refl refl refl refl (λ k. ap (fault_at k) (no-places (report_call bytes room).tests refl)) refl (λ k. refl);
   printed = report-printed;
 }

@@ -60,8 +60,8 @@ pub data Question : Type 0 where
   complete : (n : ℕ) (on free : List ℕ) → Question
   analyse : (n : ℕ) (on free : List ℕ) → Question
   affine : (n : ℕ) (on : List ℕ) → Question
-  write-form : (n : ℕ) (on free : List ℕ) → Question
-  list-primes : (n : ℕ) (on free : List ℕ) (place : ℕ) → Question
+  write_form : (n : ℕ) (on free : List ℕ) → Question
+  list_primes : (n : ℕ) (on free : List ℕ) (place : ℕ) → Question
 
 -- The numbers returned and the list handed over: as much of the front of the room as was counted.
 pub data Reply : Type 0 where
@@ -79,9 +79,9 @@ reply (analyse n on free) =
     analysis r.refusal r.degree (vectors_of r.basis) (listed r.canonical) (listed r.equations) (take r.count (analyse_after n on free point_room))
 reply (affine n on) =
     let r = affine_answer n on point_room in space r.refusal r.least r.dimension (vectors_of r.basis) (take r.count (affine_after n on point_room))
-reply (write-form n on free) =
+reply (write_form n on free) =
     let r = write_answer n on free byte_room in form r.refusal r.products (take r.length (write_after n on free byte_room))
-reply (list-primes n on free place) =
+reply (list_primes n on free place) =
     let c = call_of n on free place 99 byte_room in
     let r = listing_answer c in
     records r.refusal r.next r.passed r.records (handed_over c)
@@ -113,23 +113,23 @@ six_records =
 pub examples : List Example
 examples =
     example (analyse 1 [] []) (analysis 0 1 (1 ∷ []) (1 ∷ []) [] [])
-    ∷ example (write-form 1 [] []) (form 0 0 (0x4E ∷ 0x01 ∷ 0x45 ∷ 0x00 ∷ 0x00 ∷ []))
+    ∷ example (write_form 1 [] []) (form 0 0 (0x4E ∷ 0x01 ∷ 0x45 ∷ 0x00 ∷ 0x00 ∷ []))
     ∷ example (analyse 1 (0 ∷ []) []) (analysis 0 0 [] [] (1 ∷ []) (0 ∷ []))
     ∷ example (analyse 1 (0 ∷ 1 ∷ []) []) (analysis 0 1 (1 ∷ []) (1 ∷ []) [] (0 ∷ []))
-    ∷ example (write-form 1 (0 ∷ 1 ∷ []) []) (form 0 1 (0x4E ∷ 0x01 ∷ 0x50 ∷ 0x45 ∷ 0x01 ∷ 0x00 ∷ []))
+    ∷ example (write_form 1 (0 ∷ 1 ∷ []) []) (form 0 1 (0x4E ∷ 0x01 ∷ 0x50 ∷ 0x45 ∷ 0x01 ∷ 0x00 ∷ []))
     ∷ example (analyse 3 (1 ∷ 2 ∷ 4 ∷ 7 ∷ []) []) (analysis 0 2 (3 ∷ 5 ∷ []) (1 ∷ 2 ∷ []) (7 ∷ []) (1 ∷ []))
-    ∷ example (list-primes 3 (1 ∷ 2 ∷ 4 ∷ 7 ∷ []) [] 0) (records 0 51 51 1 (2 ∷ 1 ∷ 3 ∷ 5 ∷ 0 ∷ 0 ∷ 0 ∷ 0 ∷ 4 ∷ []))
+    ∷ example (list_primes 3 (1 ∷ 2 ∷ 4 ∷ 7 ∷ []) [] 0) (records 0 51 51 1 (2 ∷ 1 ∷ 3 ∷ 5 ∷ 0 ∷ 0 ∷ 0 ∷ 0 ∷ 4 ∷ []))
     ∷ example (analyse 4 five []) (analysis 0 1 (3 ∷ []) (3 ∷ []) (8 ∷ 4 ∷ 3 ∷ []) (2 ∷ 3 ∷ 5 ∷ 6 ∷ 7 ∷ []))
-    ∷ example (write-form 4 five []) (form 0 2 five_form)
-    ∷ example (list-primes 3 (2 ∷ 3 ∷ 5 ∷ 6 ∷ 7 ∷ []) [] 0) (records 0 51 51 5 six_records)
+    ∷ example (write_form 4 five []) (form 0 2 five_form)
+    ∷ example (list_primes 3 (2 ∷ 3 ∷ 5 ∷ 6 ∷ 7 ∷ []) [] 0) (records 0 51 51 5 six_records)
     ∷ example (affine 4 (2 ∷ 4 ∷ 6 ∷ 11 ∷ 13 ∷ [])) (space 0 0 3 (2 ∷ 4 ∷ 9 ∷ []) (1 ∷ 2 ∷ 3 ∷ 5 ∷ 6 ∷ []))
     ∷ example (complete 2 (0 ∷ []) (1 ∷ 2 ∷ [])) (completion 0 1 0 0 (0 ∷ 1 ∷ []))
     ∷ example (analyse 2 (0 ∷ []) (1 ∷ 2 ∷ [])) (analysis 0 1 (1 ∷ []) (2 ∷ []) (2 ∷ []) (0 ∷ []))
-    ∷ example (write-form 2 (0 ∷ []) (1 ∷ 2 ∷ [])) (form 0 1 (0x4E ∷ 0x02 ∷ 0x50 ∷ 0x58 ∷ 0x00 ∷ 0x02 ∷ 0x00 ∷ 0x45 ∷ 0x01 ∷ 0x00 ∷ []))
-    ∷ example (list-primes 2 (0 ∷ []) (1 ∷ 2 ∷ []) 0) (records 0 11 11 2 (1 ∷ 0 ∷ 1 ∷ 0 ∷ 0 ∷ 0 ∷ 0 ∷ 0 ∷ 1 ∷ (1 ∷ 0 ∷ 2 ∷ 0 ∷ 0 ∷ 0 ∷ 0 ∷ 0 ∷ 1 ∷ [])))
-    ∷ example (list-primes 2 [] (0 ∷ []) 0) (records 0 11 11 0 [])
-    ∷ example (list-primes 2 [] (0 ∷ []) 11) (records 0 11 0 0 [])
-    ∷ example (list-primes 2 [] (0 ∷ []) 12) (records 9 0 0 0 [])
+    ∷ example (write_form 2 (0 ∷ []) (1 ∷ 2 ∷ [])) (form 0 1 (0x4E ∷ 0x02 ∷ 0x50 ∷ 0x58 ∷ 0x00 ∷ 0x02 ∷ 0x00 ∷ 0x45 ∷ 0x01 ∷ 0x00 ∷ []))
+    ∷ example (list_primes 2 (0 ∷ []) (1 ∷ 2 ∷ []) 0) (records 0 11 11 2 (1 ∷ 0 ∷ 1 ∷ 0 ∷ 0 ∷ 0 ∷ 0 ∷ 0 ∷ 1 ∷ (1 ∷ 0 ∷ 2 ∷ 0 ∷ 0 ∷ 0 ∷ 0 ∷ 0 ∷ 1 ∷ [])))
+    ∷ example (list_primes 2 [] (0 ∷ []) 0) (records 0 11 11 0 [])
+    ∷ example (list_primes 2 [] (0 ∷ []) 11) (records 0 11 0 0 [])
+    ∷ example (list_primes 2 [] (0 ∷ []) 12) (records 9 0 0 0 [])
     ∷ example (analyse 4 five (0 ∷ 1 ∷ 2 ∷ 3 ∷ 11 ∷ [])) (analysis 0 2 (3 ∷ 8 ∷ []) (1 ∷ 3 ∷ []) (4 ∷ 3 ∷ []) (1 ∷ 2 ∷ 3 ∷ []))
     ∷ example (complete 3 (0 ∷ []) (1 ∷ 2 ∷ 4 ∷ 6 ∷ [])) (completion 0 2 0 0 (0 ∷ 2 ∷ 4 ∷ 6 ∷ []))
     ∷ example (complete 3 (0 ∷ []) (1 ∷ 2 ∷ 4 ∷ 6 ∷ 7 ∷ [])) (completion 0 2 0 1 (0 ∷ 1 ∷ 6 ∷ 7 ∷ []))

@@ -294,10 +294,10 @@ pub faults-told : FaultsTold
 unfolding stored_fault stored_place
 faults-told = record {
   read_table = table-tells;
-  form-points = λ room. form-tells (λ bytes. points_refusal bytes room)
+  form_points = λ room. form-tells (λ bytes. points_refusal bytes room)
       (λ bytes. ways-told (λ (x : FormPoints). fault_at x.refusal x.place) (points-ways bytes room) refl (λ p k. refl))
       (λ bytes. ways-others (λ (x : FormPoints). fault_at x.refusal x.place) (points-ways bytes room) refl (λ p k. refl));
-  form-rewrite = λ room. form-tells (λ bytes. rewrite_refusal bytes room)
+  form_rewrite = λ room. form-tells (λ bytes. rewrite_refusal bytes room)
       (λ bytes. ways-told (λ (x : FormRewrite). fault_at x.refusal x.place) (rewrite-ways bytes room) refl (λ p k. refl))
       (λ bytes. ways-others (λ (x : FormRewrite). fault_at x.refusal x.place) (rewrite-ways bytes room) refl (λ p k. refl));
   table-numbers = λ bytes on free. table-numbers on free bytes;

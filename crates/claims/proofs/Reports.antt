@@ -80,12 +80,12 @@ module _ (n : ℕ) (on free room : List ℕ) where
 
   pub write-gave : (write_answer n on free room).refusal ≡ 0
       → Gave (write_answer n on free room) (write_accepted n on free) (take (write_answer n on free room).length (write_after n on free room)) (form_bytes n on free)
-  write-gave = gave (demand1.write-form n on free room) (λ (r : FormWritten). r.length) refl
+  write-gave = gave (demand1.write_form n on free room) (λ (r : FormWritten). r.length) refl
 
   pub write-small : (write_answer n on free room).refusal ≡ 0 → form_size_fault n on free ≡ false
   write-small e =
       none_last (table_tests n on free) (test size_fault (form_size_fault n on free) ∷ [])
-      (none_first (form_tests n on free) (room_test (form_bytes n on free) room) ((demand1.write-form n on free room).exact.accepted.0 e))
+      (none_first (form_tests n on free) (room_test (form_bytes n on free) room) ((demand1.write_form n on free room).exact.accepted.0 e))
       (test size_fault (form_size_fault n on free)) (inl refl)
 
 -- ---- the calls on the bytes of a form
@@ -93,11 +93,11 @@ module _ (n : ℕ) (on free room : List ℕ) where
 module _ (bytes room : List ℕ) where
   pub points-gave : (points_answer bytes room).refusal ≡ 0
       → Gave (points_answer bytes room) (points_accepted bytes) (take (points_answer bytes room).count (points_after bytes room)) (points_read bytes)
-  points-gave = gave (demand1.form-points bytes room) (λ (r : FormPoints). r.count) refl
+  points-gave = gave (demand1.form_points bytes room) (λ (r : FormPoints). r.count) refl
 
   pub rewrite-gave : (rewrite_answer bytes room).refusal ≡ 0
       → Gave (rewrite_answer bytes room) (rewrite_accepted bytes) (take (rewrite_answer bytes room).length (rewrite_after bytes room)) (rewritten bytes)
-  rewrite-gave = gave (demand1.form-rewrite bytes room) (λ (r : FormRewrite). r.length) refl
+  rewrite-gave = gave (demand1.form_rewrite bytes room) (λ (r : FormRewrite). r.length) refl
 
 -- ---- `linear_space` of a function's points
 

@@ -180,7 +180,7 @@ pub record Demand1 : Type 0 where
       → Decides comparison_order (20 ∷ 21 ∷ 25 ∷ 26 ∷ 1 ∷ 2 ∷ 3 ∷ 20 ∷ 21 ∷ 25 ∷ 26 ∷ 1 ∷ 2 ∷ 3 ∷ 10 ∷ 11 ∷ []) (λ r. fault_at r.refusal r.place) compare_others
       (compare_call left right first room) (compare_answer left right first room)
       (lent (compare_bytes left right first room) room (compare_after left right first room) ∷ [])
-  pub linear-space : (n : ℕ) (on : List ℕ)
+  pub linear_space : (n : ℕ) (on : List ℕ)
       → Decides refusal_order (1 ∷ 2 ∷ 3 ∷ 4 ∷ []) (λ r. unplaced r.refusal) linear_space_others
       (linear_space_call n on) (linear_space_answer n on)
       []
@@ -199,40 +199,40 @@ pub record Demand1 : Type 0 where
   -- The two calls that take on points alone have no free points, so that their test of number 4 never applies.
   pub never-shared : (on : List ℕ) → shared on [] ≡ false
   -- A listing that runs short of room stops and is not refused: there is no 7.
-  pub list-primes : (n : ℕ) (on free : List ℕ) (place allowance : ℕ) (room : List ℕ)
+  pub list_primes : (n : ℕ) (on free : List ℕ) (place allowance : ℕ) (room : List ℕ)
       → Decides refusal_order (1 ∷ 2 ∷ 3 ∷ 4 ∷ 5 ∷ 9 ∷ []) (λ r. unplaced r.refusal) listing_others
       (listing_call (call_of n on free place allowance room)) (listing_answer (call_of n on free place allowance room))
       (lent (records_of (table_of n on free) (listing (call_of n on free place allowance room)).primes) room (listing_after (call_of n on free place allowance room)) ∷ [])
-  pub write-form : (n : ℕ) (on free room : List ℕ)
+  pub write_form : (n : ℕ) (on free room : List ℕ)
       → Decides refusal_order (1 ∷ 2 ∷ 3 ∷ 4 ∷ 5 ∷ 7 ∷ []) (λ r. unplaced r.refusal) write_others
       (write_call n on free room) (write_answer n on free room)
       (lent (form_bytes n on free) room (write_after n on free room) ∷ [])
-  pub form-points : (bytes room : List ℕ)
+  pub form_points : (bytes room : List ℕ)
       → Decides refusal_order (20 ∷ 21 ∷ 22 ∷ 23 ∷ 24 ∷ 25 ∷ 26 ∷ 27 ∷ 7 ∷ []) (λ r. fault_at r.refusal r.place) points_others
       (points_call bytes room) (points_answer bytes room)
       (lent (points_read bytes) room (points_after bytes room) ∷ [])
-  pub form-rewrite : (bytes room : List ℕ)
+  pub form_rewrite : (bytes room : List ℕ)
       → Decides refusal_order (20 ∷ 21 ∷ 22 ∷ 23 ∷ 24 ∷ 25 ∷ 26 ∷ 27 ∷ 7 ∷ []) (λ r. fault_at r.refusal r.place) rewrite_others
       (rewrite_call bytes room) (rewrite_answer bytes room)
       (lent (rewritten bytes) room (rewrite_after bytes room) ∷ [])
   -- The calls that keep an index: the second line of each is its lent list.
-  pub index-build : (form : List ℕ) (list : List PointRecord)
+  pub index_build : (form : List ℕ) (list : List PointRecord)
       → Decides refusal_order (20 ∷ 21 ∷ 22 ∷ 23 ∷ 24 ∷ 25 ∷ 26 ∷ 27 ∷ 7 ∷ []) (λ r. fault_at r.refusal r.place) indexed_others
       (build_call form (length list)) (build_answer form list)
       []
-  pub index-build-list : (form : List ℕ) (list : List PointRecord)
+  pub index_build_list : (form : List ℕ) (list : List PointRecord)
       → LentList (build_answer form list).refusal (form_index (decode_form form)) list (build_after form list)
-  pub index-append : (form product : List ℕ) (list : List PointRecord) (room : List ℕ)
+  pub index_append : (form product : List ℕ) (list : List PointRecord) (room : List ℕ)
       → Decides append_order (20 ∷ 21 ∷ 22 ∷ 23 ∷ 24 ∷ 25 ∷ 26 ∷ 27 ∷ 20 ∷ 21 ∷ 23 ∷ 24 ∷ 7 ∷ 17 ∷ 27 ∷ 7 ∷ []) (λ r. fault_at r.refusal r.place) indexed_others
       (append_to form product list room) (append_answer form product list room)
       (lent (appended_bytes form product) room (append_after form product list room) ∷ [])
-  pub index-append-list : (form product : List ℕ) (list : List PointRecord) (room : List ℕ)
+  pub index_append_list : (form product : List ℕ) (list : List PointRecord) (room : List ℕ)
       → LentList (append_answer form product list room).refusal (appended_records form product list) list (append_list_after form product list room)
-  pub index-remove : (form : List ℕ) (list : List PointRecord) (room : List ℕ)
+  pub index_remove : (form : List ℕ) (list : List PointRecord) (room : List ℕ)
       → Decides remove_order (20 ∷ 21 ∷ 22 ∷ 23 ∷ 24 ∷ 25 ∷ 26 ∷ 27 ∷ 7 ∷ 17 ∷ 12 ∷ 7 ∷ []) (λ r. fault_at r.refusal r.place) indexed_others
       (remove_from form list room) (remove_answer form list room)
       (lent (removed_bytes form) room (remove_after form list room) ∷ [])
-  pub index-remove-list : (form : List ℕ) (list : List PointRecord) (room : List ℕ)
+  pub index_remove_list : (form : List ℕ) (list : List PointRecord) (room : List ℕ)
       → LentList (remove_answer form list room).refusal (removed_records form list) list (remove_list_after form list room)
   -- The call that gives the report is refused only where the text is longer than the room: a refused table has a text too, which is `printed`.
   pub report : (bytes room : List ℕ)

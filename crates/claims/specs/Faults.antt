@@ -78,8 +78,8 @@ comparison_refusal left right first room = fault_at (compare_answer left right f
 pub record FaultsTold : Type 0 where
   -- Whatever rooms are lent.
   pub read_table : (on free : List ℕ) → Tells table_rules Encoded (λ bytes. table_refusal bytes on free)
-  pub form-points : (room : List ℕ) → Tells form_rules EncodedForm (λ bytes. points_refusal bytes room)
-  pub form-rewrite : (room : List ℕ) → Tells form_rules EncodedForm (λ bytes. rewrite_refusal bytes room)
+  pub form_points : (room : List ℕ) → Tells form_rules EncodedForm (λ bytes. points_refusal bytes room)
+  pub form_rewrite : (room : List ℕ) → Tells form_rules EncodedForm (λ bytes. rewrite_refusal bytes room)
   -- Of these numbers a table has 20, 21, 25 and 26 alone, and 26 at 12,293 where it is longer and no earlier byte is at fault, whatever byte stands there.
   pub table-numbers : (bytes on free : List ℕ) → has_place (table_refusal bytes on free).number ≡ true → Mem (table_refusal bytes on free).number (20 ∷ 21 ∷ 25 ∷ 26 ∷ [])
   pub longer : (bytes on free : List ℕ) → 12293 < length bytes → ((number place : ℕ) → FaultOf table_rules bytes number place → 12293 ≤ place)

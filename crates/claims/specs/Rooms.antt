@@ -31,7 +31,7 @@ pub record RoomsSuffice : Type 0 where
   pub complete : (n : ℕ) (on free : List ℕ) → Accepted n on free → length (completed_points n on free) ≤ 4096
   pub analyse : (n : ℕ) (on free : List ℕ) → Accepted n on free → length (completed_restriction n on free) ≤ 4096
   pub affine : (n : ℕ) (on : List ℕ) → Accepted n on [] → length (affine_projection n on) ≤ 4096
-  pub form-points : (bytes : List ℕ) → form_fault bytes ≡ 0 → length (points_read bytes) ≤ 4096
+  pub form_points : (bytes : List ℕ) → form_fault bytes ≡ 0 → length (points_read bytes) ≤ 4096
   -- Also the records of an index, one for each point of the form.
   pub index : (form : List ℕ) → form_fault form ≡ 0 → length (form_index (decode_form form)) ≤ 4096
   -- WRITTEN_ROOM: the bytes of the form that is written for a table with at most six variables left.

@@ -1,7 +1,7 @@
 //! Running a built program: what it writes to standard output and to standard
-//! error. Programs are looked for in target/bin of the repository, where `rt
-//! check` and `rt ci` build them; the environment variable GLOSPRUMA_BIN_DIR names
-//! another folder.
+//! error. Programs are looked for in target/bin of the repository, where
+//! tools/build puts them; the environment variable GLOSPRUMA_BIN_DIR names another
+//! folder.
 
 use std::env;
 use std::ffi::OsString;
@@ -17,7 +17,7 @@ fn path(name: &str) -> PathBuf {
     let path = PathBuf::from(named.unwrap_or_else(|| OsString::from(FOLDER))).join(name);
     assert!(
         path.is_file(),
-        "{} is missing: build it with `rt check {name}`, or name its folder in GLOSPRUMA_BIN_DIR",
+        "{} is missing: build it with `bash tools/build {name}`, or name its folder in GLOSPRUMA_BIN_DIR",
         path.display()
     );
     path

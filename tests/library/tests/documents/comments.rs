@@ -6,7 +6,7 @@ use crate::tables::quoted;
 use std::collections::BTreeSet;
 
 /// Theorems of the kit that comments quote.
-const KIT: [&str; 3] = ["gave-slice", "xor-lt", "xor-self"];
+const KIT: [&str; 1] = ["gave-slice"];
 
 /// Whether a word has the form of a theorem's name with a dash.
 fn is_theorem(word: &str) -> bool {

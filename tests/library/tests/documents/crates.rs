@@ -17,7 +17,9 @@ fn listed() -> Vec<(String, Vec<String>)> {
     let words = |text: &str| text.split_whitespace().map(str::to_string).collect();
     let entry = |line: &str| {
         let (name, uses) = line.split_once(':').expect("a name, a colon and uses");
-        (name.to_string(), words(uses))
+        // The library for C is marked as one behind its name.
+        let name = name.trim_end_matches(" staticlib").to_string();
+        (name, words(uses))
     };
     lines.map(entry).collect()
 }

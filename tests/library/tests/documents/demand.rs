@@ -57,7 +57,7 @@ fn bare(part: &str) -> &str {
 fn contracts(code: &str) -> BTreeMap<String, Said> {
     let exported = code.split("pub extern \"C\" fn glospruma_").skip(1);
     let contract = |part: &str| {
-        let name = part.split('(').next().expect("a name").replace('_', "-");
+        let name = part.split('(').next().expect("a name").to_string();
         let head = part
             .split("\n{")
             .next()
@@ -66,16 +66,14 @@ fn contracts(code: &str) -> BTreeMap<String, Said> {
             returned: String::new(),
             rooms: Vec::new(),
         };
-        for clause in head.split('⌜').skip(1) {
-            let clause = clause.split('⌝').next().expect("its end");
+        for clause in head.split("\n    ensures ").skip(1) {
+            let (_, clause) = clause.split_once("{ ").expect("its beginning");
+            let (clause, _) = clause.rsplit_once(" }").expect("its end");
             let (left, right) = clause.split_once('≡').expect("an equation");
-            let right = plain(&right.replace("now (", "(").replace(" .entry)", ")"));
-            match left.trim().strip_prefix("now (") {
+            let right = plain(&right.replace(".now", "").replace(".old", ""));
+            match left.trim().strip_suffix(".new") {
                 None => said.returned = right,
-                Some(room) => {
-                    let room = room.trim_end_matches(" .exit)").to_string();
-                    said.rooms.push((room, right));
-                }
+                Some(room) => said.rooms.push((room.to_string(), right)),
             }
         }
         (name, said)
@@ -99,7 +97,7 @@ fn demand_fields(demand: &str) -> Vec<(String, String)> {
 /// The lent list of records of a call, and the term for what it holds afterwards,
 /// from its own line, which has the call's name and `list`.
 fn lent_list(fields: &[(String, String)], name: &str) -> Option<(String, String)> {
-    let line = format!("{name}-list");
+    let line = format!("{name}_list");
     let (_, field) = fields.iter().find(|(name, _)| *name == line)?;
     let arguments = parts(field.split_once("→ LentList ")?.1);
     Some((arguments[2].clone(), bare(&arguments[3]).to_string()))
@@ -141,7 +139,7 @@ fn contracts_are_those_of_demand_1() {
     let (code, demand) = (read(CODE), read(DEMAND));
     assert_eq!(differing(&code, &demand), Vec::<String>::new());
     let contracts = contracts(&code);
-    assert_eq!(contracts.len(), code.matches("#[no_mangle]").count());
+    assert_eq!(contracts.len(), code.matches("#[unsafe(no_mangle)]").count());
     for (name, said) in &contracts {
         assert!(!said.returned.is_empty(), "{name}");
         // A contract with another term, in either place, is found.
@@ -211,7 +209,7 @@ fn left_out(demand: &str) -> Vec<String> {
         assert!(!fields.is_empty(), "{name}: {kind}");
         let listed = |field: &&String| {
             body.split_whitespace()
-                .any(|word| word.trim_end_matches(')') == format!(".{field}"))
+                .any(|word| word.trim_end_matches(')').ends_with(&format!(".{field}")))
         };
         let others = fields
             .iter()
@@ -241,7 +239,7 @@ fn places(demand: &str) -> BTreeMap<String, (bool, bool)> {
                 .lines()
                 .find(|line| line.ends_with(&format!(" {name}")))?;
             let has = fields(kind).contains(&"place".to_string());
-            Some((name, (has, line.contains("(r .place)"))))
+            Some((name, (has, line.contains(" r.place)"))))
         })
         .collect()
 }
@@ -256,14 +254,14 @@ fn places_are_told() {
     for (name, (has, told)) in found {
         assert_eq!(has, told, "{name}");
     }
-    let other = demand.replace("(r .place)) compareOthers", "0) compareOthers");
-    assert_eq!(places(&other)["compareOthers"], (true, false));
+    let other = demand.replace("r.place) compare_others", "0) compare_others");
+    assert_eq!(places(&other)["compare_others"], (true, false));
 }
 
 #[test]
 fn refused_numbers_are_all_of_them() {
     let demand = read(DEMAND);
     assert_eq!(left_out(&demand), Vec::<String>::new());
-    let other = demand.replace("r .k0 ∷ ", "");
-    assert_eq!(left_out(&other), ["completeOthers: k0"]);
+    let other = demand.replace("r.k0 ∷ ", "");
+    assert_eq!(left_out(&other), ["complete_others: k0"]);
 }

@@ -19,6 +19,8 @@ pub fn documents() -> Vec<String> {
     let mut found: Vec<String> = folder
         .map(|entry| format!("docs/{}", name(entry.expect("an entry of a folder"))))
         .collect();
+    // What was ported from the older toolchain is told with its old names.
+    found.retain(|name| name != "docs/PORT.md");
     found.extend(["README.md", "CONTRIBUTING.md", "CHANGELOG.md"].map(str::to_string));
     found
 }
@@ -116,7 +118,7 @@ fn files_of_what_is_proved_are_there() {
 #[test]
 fn missing_files_are_found() {
     let text = "[a](ARCHITECTURE.md) and [b](NOTHING.md#there); `crates/*/specs/`, `crates/*/nothing/`,\n\
-                `Nothing.antt`, `cc -Iinclude include/nothing.h`, `crates/*/proofs/FUNCTION/Proof.antt`\n\
+                `Nothing.antt`, `cc -Iinclude include/nothing.h`, `crates/*/proofs/FUNCTION/Answers.antt`\n\
                 \n    cat <examples/nothing.pla | target/bin/nothing  # in/comment\n\
                 | `tests/nothing` | `Bare.antt` |\n";
     let expected = [

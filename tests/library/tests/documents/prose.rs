@@ -81,13 +81,13 @@ fn names_in_documents_are_defined() {
 fn unknown_names_are_found() {
     let names = all_names();
     let known =
-        "`linear-span`, `linearSpace`, `first_witness`, `space::first_witness`, `Basis::insert`";
+        "`linear-span`, `linear_space`, `first_witness`, `space::first_witness`, `Basis::insert`";
     assert_eq!(unknown(known, &names), Vec::<&str>::new());
     let wrong =
-        "`linear-spam`, `linearspace`, `linearSpaces`, `basis::first_witness`, `Basis::inserts`";
+        "`linear-spam`, `linearspace`, `linear_spaces`, `basis::first_witness`, `Basis::inserts`";
     let expected = [
         "linear-spam",
-        "linearSpaces",
+        "linear_spaces",
         "basis::first_witness",
         "Basis::inserts",
     ];
