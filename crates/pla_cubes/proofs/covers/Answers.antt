@@ -4,7 +4,6 @@ use mathlib.Core.Bool.{true, false}
 use Prim.Native.Nat.{◌-◌}
 use native.Mathlib.Omega.{arith}
 use borrow.Author.Rules.{rules}
-use borrow.Author.Tests.{not-true, not-false}
 use lib.ListN.{length, get_or}
 use Rattle.gf2.specs.Bits.{bit}
 use Rattle.gf2.specs.Limits.{max_variables}
@@ -20,9 +19,9 @@ returns-then-not-allows c =
     let args = c.args in
     let pre = c.requires in
     let loop = c.loop-i in
-    let long : length args.t1 ≡ max_variables = search rules in
-    let e = covers-next args.t1 args.n (omega (arith, long, pre)) loop.i args.point (omega arith) in
-    let no : allows (get_or args.t1 loop.i 0) (bit (args.n - 1 - loop.i) args.point) ≡ false = rw (← c.bit.ensures, ← c.allows.ensures) (not-true _ c.if-not-allows.true) in
+    let long : length args.inputs ≡ max_variables = search rules in
+    let e = covers-next args.inputs args.n (omega (arith, long, pre)) loop.i args.point (omega arith) in
+    let no : allows (get_or args.inputs loop.i 0) (bit (args.n - 1 - loop.i) args.point) ≡ false = rw (← c.bit.ensures, ← c.allows.ensures) c.if-not-allows.true in
     sym (sym loop.invariant.1 ∙ (rw no at e))
 
 pub loop-i-preserved : goal.loop-i-preserved
@@ -30,14 +29,14 @@ loop-i-preserved c =
     let args = c.args in
     let pre = c.requires in
     let loop = c.loop-i in
-    let long : length args.t1 ≡ max_variables = search rules in
-    let e = covers-next args.t1 args.n (omega (arith, long, pre)) loop.i args.point (omega arith) in
-    let yes : allows (get_or args.t1 loop.i 0) (bit (args.n - 1 - loop.i) args.point) ≡ true = rw (← c.bit.ensures, ← c.allows.ensures) (not-false _ c.if-not-allows.false) in
+    let long : length args.inputs ≡ max_variables = search rules in
+    let e = covers-next args.inputs args.n (omega (arith, long, pre)) loop.i args.point (omega arith) in
+    let yes : allows (get_or args.inputs loop.i 0) (bit (args.n - 1 - loop.i) args.point) ≡ true = rw (← c.bit.ensures, ← c.allows.ensures) c.if-not-allows.false in
     (omega arith, sym (rw yes at e) ∙ loop.invariant.1)
 
 pub returns : goal.returns
 returns c =
     let args = c.args in
     let loop = c.loop-i in
-    let long : length args.t1 ≡ max_variables = search rules in
-    sym (covers-end args.t1 args.n (omega (arith, long, c.requires)) loop.i args.point (omega arith)) ∙ loop.invariant.1
+    let long : length args.inputs ≡ max_variables = search rules in
+    sym (covers-end args.inputs args.n (omega (arith, long, c.requires)) loop.i args.point (omega arith)) ∙ loop.invariant.1

@@ -1,5 +1,4 @@
 -- `pla_cubes::flags_with` meets its contract: each list of flags is marked by its symbol. Assumes nothing.
-use Prim.Native.Nat.{zero}
 use lib.ListN.{take}
 use Rattle.pla_cubes.specs.Cubes.{Row}
 use Rattle.pla_cubes.proofs.Marking.{says-next}

@@ -1,6 +1,5 @@
 -- `pla_cubes::inputs_of` meets its contract. The loop's invariant: the first i symbols are written. Assumes nothing.
 use mathlib.Core.Path.{◌≡◌, refl}
-use Prim.Native.Nat.{◌-◌}
 use native.Mathlib.Omega.{arith}
 use native.Mathlib.Numerals.{add-one}
 use lib.ListN.{length-set}

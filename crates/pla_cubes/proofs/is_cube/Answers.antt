@@ -2,13 +2,12 @@
 use mathlib.Core.Path.{◌≡◌, refl, sym, ◌∙◌}
 use mathlib.Core.Bool.{◌&&◌}
 use mathlib.Core.List.{[]}
-use Prim.Native.Nat.{◌-◌}
 use native.Mathlib.Omega.{arith}
-use borrow.Author.Tests.{not-true, not-false, eq-eqb, ne_eqb}
+use borrow.Author.Tests.{eq-eqb, ne_eqb}
 use lib.Dec.{eqb}
 use Rattle.pla_text.specs.Text.{symbols_of}
 use Rattle.pla_text.proofs.Parts.{symbols-blank, symbols-byte, symbols-end}
-use Rattle.pla_cubes.specs.Cubes.{is_cube, takes}
+use Rattle.pla_cubes.specs.Cubes.{is_cube}
 use Rattle.pla_cubes.proofs.Shapes.{cube-input, cube-output, cube-wrong, cube-end}
 use Rattle.pla_cubes.proofs.is_cube.Goals as goal
 use Rattle.pla_cubes.proofs.is_cube.Goals.{After-loop-i}
@@ -28,26 +27,26 @@ returns-then-not-takes c =
     let l = c.loop-i in
     let args = c.args in
     let e = symbols-byte args.content.now l.i (omega arith) (sym c.is_blank.ensures ∙ c.if-is_blank.false) in
-    sym (sym l.invariant.1 ∙ rw e (cube-wrong l.n l.o _ _ (sym c.takes.ensures ∙ not-true _ c.if-not-takes.true)))
+    sym (sym l.invariant.1 ∙ rw e (cube-wrong l.n l.o _ _ (sym c.takes.ensures ∙ c.if-not-takes.true)))
 
 pub loop-i-preserved-then-n-gt0 : goal.loop-i-preserved-then-n-gt0
 loop-i-preserved-then-n-gt0 c =
     let l = c.loop-i in
     let args = c.args in
     let e = symbols-byte args.content.now l.i (omega arith) (sym c.is_blank.ensures ∙ c.if-is_blank.false) in
-    (omega arith, sym (rw e (cube-input l.n l.o _ _ c.if-n-gt0.true (sym c.takes.ensures ∙ not-false _ c.if-not-takes.false))) ∙ l.invariant.1)
+    (omega arith, sym (rw e (cube-input l.n l.o _ _ c.if-n-gt0.true (sym c.takes.ensures ∙ c.if-not-takes.false))) ∙ l.invariant.1)
 
 pub overflow_sub-o : goal.overflow_sub-o
 overflow_sub-o c =
     let loop = c.loop-i in
-    omega (arith, (cube-output loop.n loop.o _ [] c.if-n-gt0.false (sym c.takes.ensures ∙ not-false _ c.if-not-takes.false)).0)
+    omega (arith, (cube-output loop.n loop.o _ [] c.if-n-gt0.false (sym c.takes.ensures ∙ c.if-not-takes.false)).0)
 
 pub loop-i-preserved : goal.loop-i-preserved
 loop-i-preserved c =
     let l = c.loop-i in
     let args = c.args in
     let e = symbols-byte args.content.now l.i (omega arith) (sym c.is_blank.ensures ∙ c.if-is_blank.false) in
-    (omega arith, sym (rw e (cube-output l.n l.o _ _ c.if-n-gt0.false (sym c.takes.ensures ∙ not-false _ c.if-not-takes.false)).1) ∙ l.invariant.1)
+    (omega arith, sym (rw e (cube-output l.n l.o _ _ c.if-n-gt0.false (sym c.takes.ensures ∙ c.if-not-takes.false)).1) ∙ l.invariant.1)
 
 -- Where no symbol is left.
 ended : (c : After-loop-i) → eqb c.loop-i.n 0 && eqb c.loop-i.o 0 ≡ is_cube c.args.inputs c.args.outputs (symbols_of c.args.content.now)

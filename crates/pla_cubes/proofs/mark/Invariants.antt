@@ -4,7 +4,7 @@ use mathlib.Core.Bool.{true}
 use Prim.Native.Nat.{◌-◌, ◌≤◌}
 use lib.ListN.{length, take}
 use Rattle.table.specs.Flags.{max_points}
-use Rattle.pla_cubes.specs.Cubes.{covers, says}
+use Rattle.pla_cubes.specs.Cubes.{covers}
 use Rattle.pla_cubes.proofs.Marking.{Marking}
 use Rattle.pla_cubes.proofs.mark.Given as goal
 
