@@ -1,8 +1,7 @@
 -- `projection::count_kept` meets its contract: the count so far is that of the points kept below w. Assumes nothing.
 use mathlib.Core.Path.{◌≡◌, refl, sym, ap, ◌∙◌}
 use mathlib.Core.Bool.{true, false}
-use mathlib.Core.Logic.{⊎_elim}
-use Prim.Native.Nat.{ℕ, ◌-◌, ◌^◌}
+use Prim.Native.Nat.{ℕ, ◌^◌}
 use native.Mathlib.Omega.{arith}
 use lib.ListN.{length, length-map}
 use lib.Pow.{pow_mono}
@@ -13,6 +12,7 @@ use Rattle.space.specs.Witness.{flagged}
 use Rattle.projection.specs.Masks.{places_clear, is_kept, kept}
 use Rattle.table.proofs.Selecting.{count-step}
 use Rattle.projection.proofs.count_kept.Goals as goal
+use Rattle.projection.proofs.count_kept.Goals.{then-is_kept, else-is_kept}
 
 pub loop-w-init : goal.loop-w-init
 unfolding select
@@ -34,8 +34,10 @@ loop-w-preserved c =
     let t = is_kept a.leads (flagged a.flags.now) in
     let known = sym c.is_kept.ensures in (
       omega (arith, c.point_count-size.ensures),
-      ⊎_elim (λ x. count-step t l.w l.count c.if-is_kept.count l.invariant.1 true (known ∙ x.0.true) x.1)
-          (λ x. count-step t l.w l.count c.if-is_kept.count l.invariant.1 false (known ∙ x.0.left) x.1) c.if-is_kept.branch,
+      elim c.if-is_kept.branch [
+        | then-is_kept w ↦ count-step t l.w l.count c.if-is_kept.count l.invariant.1 true (known ∙ w.if-is_kept.true) w.count-is
+        | else-is_kept w ↦ count-step t l.w l.count c.if-is_kept.count l.invariant.1 false (known ∙ w.if-is_kept.false) w.count-is
+      ],
     )
 
 pub returns : goal.returns

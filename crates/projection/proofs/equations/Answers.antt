@@ -2,9 +2,8 @@
 use mathlib.Core.Path.{◌≡◌, sym, ap, ◌∙◌}
 use mathlib.Core.Bool.{Bool, true, false, not, cond}
 use mathlib.Core.List.{List, [], ◌∷◌, ◌++◌}
-use Prim.Native.Nat.{ℕ, suc, ◌+◌, ◌-◌, ◌<◌}
+use Prim.Native.Nat.{ℕ, suc, ◌-◌, ◌<◌}
 use native.Mathlib.Omega.{arith}
-use borrow.Author.Tests.{not-true, not-false}
 use lib.ListN.{length-append}
 use Rattle.gf2.specs.Bits.{bit}
 use Rattle.gf2.specs.Basis.{is_lead, lead_mask}
@@ -45,7 +44,7 @@ loop-k-preserved-then-not-bit c =
       omega (arith, short-len p.result f p.ensures, length-append (listed l.found) (m ∷ []), short-len l.found (listed l.found) l.invariant.2),
       short-again p.result f p.ensures,
       rw (short-listed p.result f p.ensures, c.equation.ensures)
-          (passed b c.requires.basis l.k (omega arith) (listed l.found) false (lead ∙ not-true r.result c.if-not-bit.true) ∙ l.invariant.3),
+          (passed b c.requires.basis l.k (omega arith) (listed l.found) false (lead ∙ c.if-not-bit.true) ∙ l.invariant.3),
     )
 
 pub loop-k-preserved : goal.loop-k-preserved
@@ -55,7 +54,7 @@ loop-k-preserved c =
     let leads = c.leads-leads in
     let r = c.bit in
     let lead = known b c.requires.basis l.k (omega arith) (listed l.found) leads.result leads.ensures r.result r.ensures in
-    (omega arith, omega arith, l.invariant.2, passed b c.requires.basis l.k (omega arith) (listed l.found) true (lead ∙ not-false r.result c.if-not-bit.false) ∙ l.invariant.3)
+    (omega arith, omega arith, l.invariant.2, passed b c.requires.basis l.k (omega arith) (listed l.found) true (lead ∙ c.if-not-bit.false) ∙ l.invariant.3)
 
 pub returns : goal.returns
 unfolding equations

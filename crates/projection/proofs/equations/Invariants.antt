@@ -1,7 +1,7 @@
 -- `projection::equations` meets its contract: what is found, then the equations of the places below k, is the whole. Assumes nothing.
 use mathlib.Core.Path.{◌≡◌}
 use mathlib.Core.List.{◌++◌}
-use Prim.Native.Nat.{◌+◌, ◌-◌, ◌≤◌}
+use Prim.Native.Nat.{◌+◌, ◌≤◌}
 use Rattle.basis.specs.Short.{listed, short}
 use Rattle.basis.specs.Reduced.{vectors_of}
 use Rattle.space.specs.Restriction.{equations}

@@ -1,7 +1,7 @@
 -- `projection::write_kept` meets its contract: what is written are the points kept below w, and the count is theirs. Assumes nothing.
 use mathlib.Core.Path.{◌≡◌, refl, ap, ◌∙◌}
 use mathlib.Core.List.{map}
-use Prim.Native.Nat.{ℕ, ◌-◌, ◌^◌, ◌<◌}
+use Prim.Native.Nat.{ℕ, ◌^◌, ◌<◌}
 use native.Mathlib.Omega.{arith}
 use lib.ListN.{length}
 use lib.Pow.{pow_mono}
@@ -44,9 +44,9 @@ loop-w-preserved c =
     let p = c.write_point-count in
     let k : l.w < 2 ^ a.n = omega (arith, c.point_count-size.ensures) in (
       omega arith,
-      count-step t l.w l.count p.result l.invariant.1 (t l.w) refl p.ensures.0,
+      count-step t l.w l.count p.result l.invariant.1 (t l.w) refl p.ensures.value,
       write_step g t l.w l.count a.room.now l.room _ l.invariant.1 l.invariant.2
-          (λ e. rw l.invariant.1 (written-room g t l.w (2 ^ a.n) a.room.now c.requires.flags_in_bounds k e)) (t l.w) refl (p.ensures.1 a.n k),
+          (λ e. rw l.invariant.1 (written-room g t l.w (2 ^ a.n) a.room.now c.requires.flags_in_bounds k e)) (t l.w) refl (p.ensures.by_index a.n k),
     )
 
 pub shape_of-room : goal.shape_of-room
