@@ -7,4 +7,4 @@ count_in_prime-requires c = c.requires
 
 pub returns : goal.returns
 returns c =
-    count-nonzero c.args.on c.args.free c.requires.of_points_2.1 c.count_in_prime.result c.count_in_prime.ensures
+    count-nonzero c.args.on c.args.free c.requires.entry_at c.count_in_prime.result c.count_in_prime.ensures

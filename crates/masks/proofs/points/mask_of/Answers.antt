@@ -2,7 +2,6 @@
 use mathlib.Core.Path.{◌≡◌, sym, ap, ◌∙◌}
 use mathlib.Core.Bool.{Bool, ◌||◌, or-false}
 use mathlib.Core.List.{[]}
-use Prim.Native.Nat.{◌-◌}
 use native.Mathlib.Omega.{arith}
 use lib.ListN.{drop, drop_of_length-le}
 use borrow.Author.Rules.{rules}
@@ -24,7 +23,7 @@ overflow_shl-mask c =
 pub loop-i-preserved : goal.loop-i-preserved
 loop-i-preserved c =
     let l = c.loop-i in
-    (omega arith, λ x. mask_next c.args.points.now l.mask l.i c.flag_place.result (omega arith) c.flag_place.ensures (shl-mask c) x ∙ l.invariant.1 x)
+    (omega arith, λ x. mask_next c.args.points.now l.mask l.i c.flag_place.result (omega arith) c.flag_place.ensures (overflow_shl-mask c) x ∙ l.invariant.1 x)
 
 pub returns : goal.returns
 unfolding holds
