@@ -15,7 +15,7 @@ is_odd c = let left = c.if-n-eq0.false in omega arith
 
 pub cross_halves-requires : goal.cross_halves-requires
 cross_halves-requires c =
-record {
+    record {
       numbers_len = halves-whole c.args.n c.args.numbers.now (is_odd (goal.at.cross_halves-requires c).Else-n-eq0) c.requires;
       summable = halves_small c.args.n c.args.numbers.now (is_odd (goal.at.cross_halves-requires c).Else-n-eq0) c.requires;
     }
@@ -25,5 +25,5 @@ shape_of-numbers c = c.cross_halves.ensures.long
 
 pub returns : goal.returns
 returns c =
-    blocks-odd c.args.n c.args.numbers.now (is_odd (goal.at.returns c).Else-n-eq0) c.requires c.cross_halves.new.0
+    blocks-odd c.args.n c.args.numbers.now (is_odd (goal.at.returns c).Else-n-eq0) c.requires c.cross_halves.new.numbers
     c.cross_halves.ensures

@@ -1,36 +1,23 @@
 -- `walsh::pass` meets its contract. The loop's invariant: the blocks before the place `start` are crossed, the numbers from there on are as they were.
 -- Assumes nothing.
-use Prim.Native.Nat.{◌+◌, ◌-◌, ◌*◌, ◌≤◌}
 use native.Mathlib.Omega.{arith}
-use lib.ListN.{length}
 use Rattle.walsh.proofs.Passing.{passing-start, passing-room, passing-small, passing-long, passing-next, passing-end}
-use Rattle.walsh.proofs.pass.Reads as reads
-use Rattle.walsh.proofs.pass.Lts as lts
-use Rattle.walsh.proofs.cross_quarters.Reads as cross-quarters-reads
 use Rattle.walsh.proofs.pass.Goals as goal
 
 pub overflow_mul-block : goal.overflow_mul-block
-overflow_mul-block c = omega (arith, c.requires.one, c.well-formed.0.1)
+overflow_mul-block c = omega (arith, c.requires.one, c.well_formed.0.1)
 
 pub loop-start-init : goal.loop-start-init
 loop-start-init c = passing-start c.args.quarter c.args.numbers.now
 
--- In the loop: the block that begins ends inside the list.
-room : (c : lts.In-loop (cross-quarters-reads.Asked, cross-quarters-reads.Learnt) reads.Pre reads.Post invariant-loop decreases-loop)
-    → c.before.loop-start.start + 4 * c.before.before.args.quarter ≤ length c.before.loop-start.numbers
-room c =
-    let start = c.before.before in
-    let loop = c.before.loop-start in
-    passing-room start.args.quarter start.args.numbers.now start.requires loop.start loop.numbers c.loop-start-test.true loop.invariant
-
 pub overflow_add-end : goal.overflow_add-end
-overflow_add-end c = omega (arith, room c, c.loop-start.invariant.long, c.well-formed.0.1)
+overflow_add-end c = omega (arith, passing-room c.args.quarter c.args.numbers.now c.requires c.loop-start.start c.loop-start.numbers c.loop-start-test.true c.loop-start.invariant, c.loop-start.invariant.long, c.well_formed.0.1)
 
 pub offset_bounds-numbers-start : goal.offset_bounds-numbers-start
-offset_bounds-numbers-start c = omega (arith, room c, c.loop-start.invariant.long, c.well-formed.0.1)
+offset_bounds-numbers-start c = omega (arith, passing-room c.args.quarter c.args.numbers.now c.requires c.loop-start.start c.loop-start.numbers c.loop-start-test.true c.loop-start.invariant, c.loop-start.invariant.long, c.well_formed.0.1)
 
 pub slice_bounds-cross_quarters-end : goal.slice_bounds-cross_quarters-end
-slice_bounds-cross_quarters-end c = room c
+slice_bounds-cross_quarters-end c = passing-room c.args.quarter c.args.numbers.now c.requires c.loop-start.start c.loop-start.numbers c.loop-start-test.true c.loop-start.invariant
 
 pub cross_quarters-requires : goal.cross_quarters-requires
 cross_quarters-requires c =
@@ -50,7 +37,7 @@ pub loop-start-preserved : goal.loop-start-preserved
 loop-start-preserved c =
     let loop = c.loop-start in
     passing-next c.args.quarter c.args.numbers.now c.requires loop.start loop.numbers c.loop-start-test.true loop.invariant
-    c.cross_quarters.new.0 c.cross_quarters.ensures
+    c.cross_quarters.new.numbers c.cross_quarters.ensures
 
 pub shape_of-numbers : goal.shape_of-numbers
 shape_of-numbers c = c.loop-start.invariant.long

@@ -3,9 +3,6 @@
 use Prim.Native.Nat.{◌-◌}
 use lib.ListN.{length}
 use Rattle.walsh.proofs.Passing.{Passing}
-use Rattle.walsh.proofs.pass.Reads as reads
-use Rattle.walsh.proofs.pass.Lts as lts
-use Rattle.walsh.proofs.cross_quarters.Reads as cross-quarters-reads
 use Rattle.walsh.proofs.pass.Given as goal
 
 abbrev pub invariant-loop-start : goal.invariant-loop-start

@@ -21,7 +21,7 @@ pass-requires c =
 pub loop-block-preserved : goal.loop-block-preserved
 loop-block-preserved c =
     let loop = c.loop-block in
-    λ xs t. blocks-next c.args.n xs loop.block loop.numbers c.loop-block-test.true (loop.invariant xs t) c.pass.new.0
+    λ xs t. blocks-next c.args.n xs loop.block loop.numbers c.loop-block-test.true (loop.invariant xs t) c.pass.new.numbers
     c.pass.ensures
 
 -- Past the loop: a block is one number.
