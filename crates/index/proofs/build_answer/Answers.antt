@@ -19,11 +19,8 @@ returns-then-fault-ne0 c =
     (early (form_tests a.form.now) (list_test a.form.now a.records ∷ []) c.form_fault-fault.ensures c.if-fault-ne0.true) c.if-fault-ne0.true c.refused.ensures
 
 -- Past the first test the bytes are a form.
-abbrev given : Else-fault-ne0 → Start
-given c = c.before.before.before.before
-
-sound : (c : Else-fault-ne0) → (form_fault (given c).args.form.now ≡ 0) × IsForm (given c).args.form.now
-sound c = found-form (given c).args.form.now c.form_fault-fault.ensures c.if-fault-ne0.false
+sound : (c : Else-fault-ne0) → (form_fault c.args.form.now ≡ 0) × IsForm c.args.form.now
+sound c = found-form c.args.form.now c.form_fault-fault.ensures c.if-fault-ne0.false
 
 pub list_fault-fault-requires : goal.list_fault-fault-requires
 list_fault-fault-requires c = (sound c).1
@@ -31,7 +28,7 @@ list_fault-fault-requires c = (sound c).1
 pub returns-then-fault-ne0-2 : goal.returns-then-fault-ne0-2
 unfolding build_answer_by
 returns-then-fault-ne0-2 c =
-    let a = (given (goal.at.returns-then-fault-ne0-2 c).Else-fault-ne0).args in
+    let a = c.args in
     let number = c.list_fault-fault.ensures in
     let found = build-wrong a.form.now (sound (goal.at.returns-then-fault-ne0-2 c).Else-fault-ne0).0 a.records (λ z. c.if-fault-ne0-2.true (number ∙ z)) in
     answer-refused (build_tests a.form.now a.records) (decode_form a.form.now) (length a.form.now)
@@ -47,6 +44,6 @@ product_count-requires c = (sound (goal.at.product_count-requires c).Else-fault-
 pub returns : goal.returns
 unfolding build_answer_by
 returns c =
-    let a = (given (goal.at.returns c).Else-fault-ne0).args in
+    let a = c.args in
     ap₂ (λ (n k : ℕ). record { refusal = 0; place = 0; variables = n; length = length a.form.now; products = k }) c.form_variables.ensures c.product_count.ensures
     ∙ answer-accepted (build_tests a.form.now a.records) (decode_form a.form.now) (length a.form.now) (build-none a.form.now (sound (goal.at.returns c).Else-fault-ne0).0 a.records (sym c.list_fault-fault.ensures ∙ c.if-fault-ne0-2.false))

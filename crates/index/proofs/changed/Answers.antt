@@ -3,6 +3,7 @@ use mathlib.Core.Path.{ap, ◌∙◌}
 use mathlib.Core.Bool.{cond}
 use Prim.Native.Nat.{◌-◌}
 use native.Mathlib.Omega.{arith}
+use borrow.Author.Rules.{rules}
 use borrow.Author.Tests.{ne_eqb}
 use Rattle.index.specs.declared.ProductSeen.{ProductSeen}
 use Rattle.index.specs.Changes.{add_holder, drop_holder, product_seen, changed_of}
@@ -38,9 +39,9 @@ product_seen-seen-requires-in-2 c = c.requires.last c.in-2.is
 pub overflow_cast-point-in_default : goal.overflow_cast-point-in_default
 overflow_cast-point-in_default c = omega (arith, c.requires.point)
 
-record-at-requires : Need-record-at-requires
 
-record-at-requires c κs = c.before.before.requires.form c.in-1.rest.0.1 c.in-1.rest.1
+pub record_at-requires : goal.record_at-requires
+record_at-requires c = c.requires.form (search rules) (search rules)
 
 -- ---- the record
 pub returns-in-1 : goal.returns-in-1
@@ -59,4 +60,4 @@ returns-in-2 c =
 pub returns-in_default : goal.returns-in_default
 unfolding changed_of
 returns-in_default c =
-    rw (ne_eqb _ _ c.in-1.rest.0.1, ne_eqb _ _ c.in-1.rest.1) c.record_at.ensures
+    rw (ne_eqb c.args.way 1 (search rules), ne_eqb c.args.way 2 (search rules)) c.record_at.ensures

@@ -16,7 +16,7 @@ use Rattle.index.proofs.last_product.Goals.{After-product_seen-seen}
 -- One product more is left than are still to be passed, and past these the last one begins.
 pub loop-left-init : goal.loop-left-init
 unfolding last_place
-loop-left-init c = (first-begun c.args.form.now c.requires.form, omega (arith, c.requires.products_value.0, c.requires.products_value.1), refl)
+loop-left-init c = (first-begun c.args.form.now c.requires.form, omega (arith, c.requires.products_value, c.requires.le_products), refl)
 
 -- As long as products are to be passed, one begins at the place.
 module _ (form : List ℕ) (place left : ℕ) (b : Begun (drop place form)) (many : left + 1 ≡ length (parts_from 0 (drop place form)).products) where

@@ -9,8 +9,8 @@ returns-then-records-form_size c = rw (← c.form_size.ensures, lt-ltb _ _ c.if-
 
 pub returns-then-not-same : goal.returns-then-not-same
 unfolding first_fault
-returns-then-not-same c = rw (← c.form_size.ensures, le-ltb _ _ c.if-records-form_size.false, not-true c.args.same c.if-not-same.true)
+returns-then-not-same c = rw (← c.form_size.ensures, le-ltb _ _ c.if-records-form_size.false, c.if-not-same.true)
 
 pub returns : goal.returns
 unfolding first_fault
-returns c = rw (← c.form_size.ensures, le-ltb _ _ c.if-records-form_size.false, not-false c.args.same c.if-not-same.false)
+returns c = rw (← c.form_size.ensures, le-ltb _ _ c.if-records-form_size.false, c.if-not-same.false)

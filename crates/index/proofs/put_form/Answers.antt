@@ -24,7 +24,7 @@ put_end-requires c =
       c.write_word-next.ensures.place,
       c.write_word-end.ensures.place,
       ap length c.write_word-end.ensures.bytes,
-      length-sets c.write_word-next.new.0 c.write_word-next.result c.args.added.now,
+      length-sets c.write_word-next.new.room c.write_word-next.result c.args.added.now,
       ap length c.write_word-next.ensures.bytes,
       length-sets c.args.room.now 0 c.args.kept.now,
     )
@@ -35,7 +35,7 @@ returns c =
     let kept = c.args.kept.now in
     let added = c.args.added.now in
     let end = encode_end c.args.products in
-    let both : c.write_word-end.new.0 ≡ sets room 0 (kept ++ added)
+    let both : c.write_word-end.new.room ≡ sets room 0 (kept ++ added)
     = c.write_word-end.ensures.bytes ∙ ap (λ (l : List ℕ). sets l c.write_word-next.result added) c.write_word-next.ensures.bytes ∙ sets-append room 0 kept added c.write_word-next.result c.write_word-next.ensures.place in
     let place : c.write_word-end.result ≡ 0 + length (kept ++ added) = omega (arith, c.write_word-end.ensures.place, c.write_word-next.ensures.place, length-append kept added) in
     c.put_end.ensures ∙ ap (λ (l : List ℕ). sets l c.write_word-end.result end) both ∙ sets-append room 0 (kept ++ added) end c.write_word-end.result place

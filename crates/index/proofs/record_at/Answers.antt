@@ -94,19 +94,3 @@ returns c =
     let a = c.args in
     let none = products-over a.bytes.now c.loop-place.place c.loop-place.invariant.0 c.loop-place-test.false in
     sym (ap (λ (l : List (List Factor)). record_from c.loop-place.number c.loop-place.found l a.point) none) ∙ c.loop-place.invariant.3
-
-pub record-at-spec : {M : Type 1} → statement M
-
-record-at-spec =
-    close
-    (spec
-    invariant-loop
-    decreases-loop
-    loop-holds
-    shared-slice-read-if1
-    product-seen-requires
-    add-holder-requires
-    add-number
-    loop-less
-    loop-again
-    returns)

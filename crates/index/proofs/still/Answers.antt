@@ -28,21 +28,18 @@ compared right r old e q = q ∙ ap (same_record old) (sym e) ∙ rw r (sym (and
 pub returns-then-not-right : goal.returns-then-not-right
 returns-then-not-right c =
     let a = c.args in
-    rw (not-true a.right c.if-not-right.true) (sym (and-false (same_record a.old (point_record_of (form_products a.form.now) a.point))))
+    rw (c.if-not-right.true) (sym (and-false (same_record a.old (point_record_of (form_products a.form.now) a.point))))
 
 pub overflow_cast-point : goal.overflow_cast-point
 overflow_cast-point c = omega (arith, point-small c.args.form.now c.args.point c.requires)
 
-record-at-requires : Need-record-at-requires
-
-record-at-requires c κs = c.before.before.requires.0
 
 pub returns-then-old-wanted : goal.returns-then-old-wanted
 returns-then-old-wanted c =
     let a = c.args in
-    compared a.right (not-false a.right c.if-not-right.false) a.old (sym c.record_at-wanted.ensures) (sym (first-wrong a.old c.record_at-wanted.result c.if-old-wanted.true))
+    compared a.right (c.if-not-right.false) a.old (sym c.record_at-wanted.ensures) (sym (first-wrong a.old c.record_at-wanted.result c.if-old-wanted.true))
 
 pub returns : goal.returns
 returns c =
     let a = c.args in
-    compared a.right (not-false a.right c.if-not-right.false) a.old (sym c.record_at-wanted.ensures) (sym (first-right a.old c.record_at-wanted.result c.if-old-wanted.false))
+    compared a.right (c.if-not-right.false) a.old (sym c.record_at-wanted.ensures) (sym (first-right a.old c.record_at-wanted.result c.if-old-wanted.false))
