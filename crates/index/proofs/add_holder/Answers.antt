@@ -1,6 +1,6 @@
 -- `index::add_holder` meets its contract: only a product that holds the point is counted, and the first of all is the first. Assumes nothing.
 use native.Mathlib.Omega.{arith}
-use borrow.Author.Tests.{not-true, not-false, ne_eqb}
+use borrow.Author.Tests.{ne_eqb}
 use Rattle.index.proofs.add_holder.Goals as goal
 
 pub returns-then-not-holds : goal.returns-then-not-holds

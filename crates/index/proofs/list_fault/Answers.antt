@@ -1,5 +1,5 @@
 -- `index::list_fault` meets its contract: how long the list is, then whether it is the index. Assumes nothing.
-use borrow.Author.Tests.{not-true, not-false, lt-ltb, le-ltb}
+use borrow.Author.Tests.{lt-ltb, le-ltb}
 use Rattle.table.specs.Refusal.{first_fault}
 use Rattle.index.proofs.list_fault.Goals as goal
 
