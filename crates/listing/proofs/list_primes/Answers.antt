@@ -44,31 +44,31 @@ point_at-first-requires c =
 
 pub walk-tally-requires : goal.walk-tally-requires
 walk-tally-requires c =
-    let a = c.args in (
-      on-points a.n a.on.now a.free.now a.place a.allowance a.room.now (sound (goal.at.walk-tally-requires c).Else-fault-ne0) c.mask_of-on_mask.result c.mask_of-on_mask.ensures,
-      (
-        free-points a.n a.on.now a.free.now a.place a.allowance a.room.now (sound (goal.at.walk-tally-requires c).Else-fault-ne0) c.mask_of-free_mask.result c.mask_of-free_mask.ensures,
-        (
-          sound-few a.n a.on.now a.free.now a.place a.allowance a.room.now (sound (goal.at.walk-tally-requires c).Else-fault-ne0),
-          (c.start_at-start.ensures.short, c.point_at-first.ensures.below),
-        ),
-      ),
-    )
+    let a = c.args in
+    let e = sound (goal.at.walk-tally-requires c).Else-fault-ne0 in
+    let few = sound-few a.n a.on.now a.free.now a.place a.allowance a.room.now e in
+    record {
+      of_points = on-points a.n a.on.now a.free.now a.place a.allowance a.room.now e c.mask_of-on_mask.result c.mask_of-on_mask.ensures;
+      of_points_2 = free-points a.n a.on.now a.free.now a.place a.allowance a.room.now e c.mask_of-free_mask.result c.mask_of-free_mask.ensures;
+      n_le_max_listed = few;
+      degree_le_n = c.start_at-start.ensures.short;
+      point_bound = c.point_at-first.ensures.below;
+    }
 
 -- The walk has ended.
 finished : (c : After-struct_known-1)
-    →    let a = c.args in
-    Finished a.n a.on.now a.free.now a.place a.allowance a.room.now (state c.walk-tally.result c.walk-tally.new.1.1.1.1.1.1.1.0)
+    → let a = c.args in
+    Finished a.n a.on.now a.free.now a.place a.allowance a.room.now (state c.walk-tally.result c.walk-tally.new.room)
 finished c =
     let a = c.args in
-    finish a.n a.on.now a.free.now a.place a.allowance a.room.now (sound c{-Else-fault-ne0-}) c.start_at-start.result c.start_at-start.ensures
+    finish a.n a.on.now a.free.now a.place a.allowance a.room.now (sound (goal.at.finished c).Else-fault-ne0) c.start_at-start.result c.start_at-start.ensures
     c.point_at-first.result c.point_at-first.ensures c.mask_of-on_mask.result c.mask_of-free_mask.result c.mask_of-on_mask.ensures c.mask_of-free_mask.ensures _ c.walk-tally.ensures
 
 pub overflow_sub-passed : goal.overflow_sub-passed
 overflow_sub-passed c = (finished c).left
 
 pub overflow_add-next : goal.overflow_add-next
-overflow_add-next c = omega (arith, (finished c).ranges)
+overflow_add-next c = omega (arith, (finished c).fits)
 
 pub returns : goal.returns
 returns c = record { result_value = (finished c).numbers; room_after = (finished c).room }

@@ -19,13 +19,18 @@ loop-point-init c = let a = c.args in (pow_pos a.n, ap (drop a.skip) (point-firs
 
 pub candidates_at_point-count-requires : goal.candidates_at_point-count-requires
 candidates_at_point-count-requires c =
-    (c.table-counts.ensures, (c.requires.n_le_max_listed, (omega (arith, c.requires.n_le_max_listed, c.requires.degree_le_n), c.loop-point.invariant.0)))
+    record {
+      counts_value = c.table-counts.ensures;
+      n_le_max_listed = c.requires.n_le_max_listed;
+      d_le_max_listed = omega (arith, c.requires.n_le_max_listed, c.requires.degree_le_n);
+      p_bound = c.loop-point.invariant.0;
+    }
 
 pub returns-then-left-count : goal.returns-then-left-count
 returns-then-left-count c = let l = c.loop-point in record { below = l.invariant.0; same = l.invariant.1 }
 
 -- There is a point after this one.
-onward : (c : Else-left-count) →c.loop-point.point + 1 < 2 ^ c.args.n
+onward : (c : Else-left-count) → c.loop-point.point + 1 < 2 ^ c.args.n
 onward c =
     omega (arith, c.loop-point-test.true, shifted_one c.args.n 64 (omega (arith, c.requires.n_le_max_listed)))
 

@@ -2,7 +2,7 @@
 use mathlib.Core.Path.{◌≡◌, refl, sym, ap, ap₂, ◌∙◌}
 use mathlib.Core.Bool.{true}
 use mathlib.Core.List.{List}
-use Prim.Native.Nat.{ℕ, ◌+◌, ◌-◌, ◌*◌, ◌%◌, ◌^◌, ◌≤◌, ◌<◌}
+use Prim.Native.Nat.{ℕ, ◌+◌, ◌*◌, ◌%◌, ◌^◌, ◌≤◌, ◌<◌}
 use native.Mathlib.Omega.{arith}
 use lib.Dec.{eqb}
 use lib.Bits.{bit_and}
@@ -17,27 +17,27 @@ use Rattle.bases.proofs.LeadBits.{avoided-small, takes-avoided}
 use Rattle.walk.specs.Places.{placed}
 use Rattle.walk.proofs.Rows.{placed-next, placed-taken, drop-one}
 use Rattle.walk.proofs.first_taken.Goals as goal
-use Rattle.walk.proofs.first_taken.Goals.{Else-table-at-ne0, In-loop-at}
+use Rattle.walk.proofs.first_taken.Goals.{In-loop-at}
 
 pub stop_of-end-requires : goal.stop_of-end-requires
-stop_of-end-requires c = c.requires.n_le_max_listed.1.0
+stop_of-end-requires c = c.requires.d_le_max_listed
 
 pub avoided-avoided-requires : goal.avoided-avoided-requires
-avoided-avoided-requires c = record { n_le_max_listed = c.requires.n_le_max_listed.0; p_bound = c.requires.n_le_max_listed.1.1.0 }
+avoided-avoided-requires c = record { n_le_max_listed = c.requires.n_le_max_listed; p_bound = c.requires.p_bound }
 
 pub loop-at-init : goal.loop-at-init
-loop-at-init c = (omega arith, omega (arith, c.requires.n_le_max_listed.1.1.1.1, c.stop_of-end.ensures), λ rest. refl)
+loop-at-init c = (omega arith, omega (arith, c.requires.i_bound, c.stop_of-end.ensures), λ rest. refl)
 
 -- The entry at the place is one of d vectors, and of the table.
 within : (c : In-loop-at) → (c.loop-at.at < stop c.args.d) × (stop c.args.d ≤ entry_count)
 within c =
-    (omega (arith, c.loop-at-test.true, c.stop_of-end.ensures), (bounds c.args.d c.requires.n_le_max_listed.1.0).1)
+    (omega (arith, c.loop-at-test.true, c.stop_of-end.ensures), (bounds c.args.d c.requires.d_le_max_listed).1)
 
 pub offset_bounds-table-at : goal.offset_bounds-table-at
 offset_bounds-table-at c = omega (arith, within c)
 
 pub bounds-table-at : goal.bounds-table-at
-bounds-table-at c = omega (arith, within c)
+bounds-table-at c = omega (arith, within (goal.at.bounds-table-at c).In-loop-at)
 
 -- Lead bits moved up to where an entry holds them, as the code does it.
 abbrev moved : ℕ → ℕ
@@ -45,31 +45,30 @@ moved v = v * 2 ^ 48 % 2 ^ 64
 
 -- What the test says of the entry.
 tested : (c : In-loop-at)
-    →    let a = c.args in
+    → let a = c.args in
     eqb (bit_and (get_or a.table.now c.loop-at.at 0) (moved c.avoided-avoided.result)) 0 ≡ takes_point a.n a.p (get_or entries c.loop-at.at 0)
 tested c =
     let a = c.args in
     ap₂ (λ (t : List ℕ) (v : ℕ). eqb (bit_and (get_or t c.loop-at.at 0) (moved v)) 0) c.requires.table_value c.avoided-avoided.ensures
-    ∙ ap (λ (v : ℕ). eqb (bit_and (get_or entries c.loop-at.at 0) v) 0) (shl_exact 6 48 64 (avoided-small a.n a.p c.requires.n_le_max_listed.0 c.requires.n_le_max_listed.1.1.0) (omega arith))
-    ∙ sym (takes-avoided a.n a.d a.p (get_or entries c.loop-at.at 0) c.requires.n_le_max_listed.0 c.requires.n_le_max_listed.1.0 c.requires.n_le_max_listed.1.1.0
-    (entry-mem a.d c.loop-at.at c.requires.n_le_max_listed.1.0 (omega (arith, c.requires.n_le_max_listed.1.1.1.0, c.loop-at.invariant.0)) (within c).0))
+    ∙ ap (λ (v : ℕ). eqb (bit_and (get_or entries c.loop-at.at 0) v) 0) (shl_exact 6 48 64 (avoided-small a.n a.p c.requires.n_le_max_listed c.requires.p_bound) (omega arith))
+    ∙ sym (takes-avoided a.n a.d a.p (get_or entries c.loop-at.at 0) c.requires.n_le_max_listed c.requires.d_le_max_listed c.requires.p_bound
+    (entry-mem a.d c.loop-at.at c.requires.d_le_max_listed (omega (arith, c.requires.d_bound, c.loop-at.invariant.0)) (within c).0))
 
 pub loop-at-preserved-then-table-at-ne0 : goal.loop-at-preserved-then-table-at-ne0
 loop-at-preserved-then-table-at-ne0 c =
     let l = c.loop-at in
     let a = c.args in
-    let h = (within (goal.at.loop-at-preserved-then-table-at-ne0 c).After-way_told-1).0 in (
+    let h = (within (goal.at.loop-at-preserved-then-table-at-ne0 c).In-loop-at).0 in (
       omega (arith, l.invariant.0),
       omega (arith, c.loop-at-test.true),
-      λ rest. l.invariant.2 rest ∙ ap (drop l.left) (placed-next a.n a.d a.p l.at c.requires.n_le_max_listed.1.0 h rest
-          (sym (tested (goal.at.loop-at-preserved-then-table-at-ne0 c).After-way_told-1) ∙ ne_eqb (bit_and (get_or a.table.now l.at 0) (moved c.avoided-avoided.result)) 0 c.if-table-at-ne0.true)),
+      λ rest. l.invariant.2 rest ∙ ap (drop l.left) (placed-next a.n a.d a.p l.at c.requires.d_le_max_listed h rest
+          (sym (tested (goal.at.loop-at-preserved-then-table-at-ne0 c).In-loop-at) ∙ ne_eqb (bit_and (get_or a.table.now l.at 0) (moved c.avoided-avoided.result)) 0 c.if-table-at-ne0.true)),
     )
 
 -- An entry that passes is taken.
-held : (c : Else-table-at-ne0)
-    →    takes_point c.args.n c.args.p (get_or entries c.loop-at.at 0) ≡ true
-held c =
-    sym (tested c{-After-way_told-1-}) ∙ eq-eqb (bit_and (get_or c.args.table.now c.loop-at.at 0) (moved c.avoided-avoided.result)) 0 c.if-table-at-ne0.false
+held : (c : In-loop-at) → bit_and (get_or c.args.table.now c.loop-at.at 0) (moved c.avoided-avoided.result) ≡ 0
+    → takes_point c.args.n c.args.p (get_or entries c.loop-at.at 0) ≡ true
+held c e = sym (tested c) ∙ eq-eqb (bit_and (get_or c.args.table.now c.loop-at.at 0) (moved c.avoided-avoided.result)) 0 e
 
 pub returns-then-left-eq0 : goal.returns-then-left-eq0
 returns-then-left-eq0 c =
@@ -80,7 +79,7 @@ returns-then-left-eq0 c =
       low = l.invariant.0;
       high = omega (arith, l.invariant.1, c.stop_of-end.ensures);
       same = λ rest. l.invariant.2 rest ∙ ap (λ (k : ℕ). drop k (placed a.n a.d a.p l.at rest)) z;
-      taken = λ h. (refl, held (goal.at.returns-then-left-eq0 c).Else-table-at-ne0);
+      taken = λ h. (refl, held (goal.at.returns-then-left-eq0 c).In-loop-at c.if-table-at-ne0.false);
     }
 
 pub loop-at-preserved : goal.loop-at-preserved
@@ -89,7 +88,7 @@ loop-at-preserved c =
     let a = c.args in (
       omega (arith, l.invariant.0),
       omega (arith, c.loop-at-test.true),
-      λ rest. l.invariant.2 rest ∙ ap (drop l.left) (placed-taken a.n a.d a.p l.at c.requires.n_le_max_listed.1.0 (within (goal.at.loop-at-preserved c).After-way_told-1).0 rest (held (goal.at.loop-at-preserved c).Else-table-at-ne0))
+      λ rest. l.invariant.2 rest ∙ ap (drop l.left) (placed-taken a.n a.d a.p l.at c.requires.d_le_max_listed (within (goal.at.loop-at-preserved c).In-loop-at).0 rest (held (goal.at.loop-at-preserved c).In-loop-at c.if-table-at-ne0.false))
           ∙ drop-one l.left (candidate_at a.d a.p (get_or entries l.at 0)) (placed a.n a.d a.p (l.at + 1) rest) c.if-left-eq0.false,
     )
 

@@ -24,38 +24,35 @@ returns-then-tally-eq0 c =
     ∙ pass_spent (prime_by a.n a.on a.free) (record_by a.n a.on) (candidate_at a.d a.p a.entry) a.tally a.room.now c.if-tally-eq0.true
 
 pub count_in_prime-count-requires : goal.count_in_prime-count-requires
-count_in_prime-count-requires c = (c.requires.of_points, (c.requires.of_points_2.0, c.requires.of_points_2.1.0))
+count_in_prime-count-requires c = record { of_points = c.requires.of_points; of_points_2 = c.requires.of_points_2; entry_at = c.requires.entry_at }
 
 pub returns-then-count-eq0 : goal.returns-then-count-eq0
 returns-then-count-eq0 c =
     let a = c.args in
     ap (λ (t : Tally). state t a.room.now) c.passing.ensures
     ∙ pass-off (prime_by a.n a.on a.free) (record_by a.n a.on) (candidate_at a.d a.p a.entry) a.tally a.room.now c.if-tally-eq0.false
-    (count_none a.on a.free c.requires.of_points_2.1.0 c.count_in_prime-count.result c.count_in_prime-count.ensures c.if-count-eq0.true)
+    (count_none a.on a.free c.requires.entry_at c.count_in_prime-count.result c.count_in_prime-count.ensures c.if-count-eq0.true)
 
 pub returns-then-room-written-lt-RECORD_LENGTH : goal.returns-then-room-written-lt-RECORD_LENGTH
 returns-then-room-written-lt-RECORD_LENGTH c =
     let a = c.args in
     ap (λ (t : Tally). state t a.room.now) c.stopping-then-room-written-lt-RECORD_LENGTH.ensures
     ∙ pass-full (prime_by a.n a.on a.free) (record_by a.n a.on) (candidate_at a.d a.p a.entry) a.tally a.room.now c.if-tally-eq0.false
-    (count-some a.on a.free c.requires.of_points_2.1.0 c.count_in_prime-count.result c.count_in_prime-count.ensures c.if-count-eq0.false) (omega (arith, c.if-room-written-lt-RECORD_LENGTH.true))
+    (count-some a.on a.free c.requires.entry_at c.count_in_prime-count.result c.count_in_prime-count.ensures c.if-count-eq0.false) (omega (arith, c.if-room-written-lt-RECORD_LENGTH.true))
 
 pub put-requires : goal.put-requires
 put-requires c =
-    let k = c.requires.of_points_2.1.0 in (
-      omega (arith, c.if-room-written-lt-RECORD_LENGTH.false),
-      (
-        omega (arith, k.few, k.short),
-        (
-          omega (arith, k.point, pow_mono k.few),
-          omega (arith, count_small c.args.on c.args.free k c.count_in_prime-count.result c.count_in_prime-count.ensures c.if-count-eq0.false),
-        ),
-      ),
-    )
+    let k = c.requires.entry_at in
+    record {
+      record_length_in_bounds = omega (arith, c.if-room-written-lt-RECORD_LENGTH.false);
+      d_bound = omega (arith, k.few, k.short);
+      p_bound = omega (arith, k.point, pow_mono k.few);
+      count_bound = omega (arith, count_small c.args.on c.args.free k c.count_in_prime-count.result c.count_in_prime-count.ensures c.if-count-eq0.false);
+    }
 
 pub writing-requires : goal.writing-requires
 writing-requires c =
-    record { left_nonzero = pos_of_ne-zero c.if-tally-eq0.false; written_bound = omega (arith, c.requires.of_points_2.1.1, c.well-formed) }
+    record { left_nonzero = pos_of_ne-zero c.if-tally-eq0.false; written_bound = omega (arith, c.requires.written_in_bounds) }
 
 pub shape_of-room : goal.shape_of-room
 shape_of-room c =
@@ -65,7 +62,7 @@ shape_of-room c =
 pub returns : goal.returns
 returns c =
     let a = c.args in
-    let k = c.requires.of_points_2.1.0 in
+    let k = c.requires.entry_at in
     let some = c.if-count-eq0.false in
     ap₂ state c.writing.ensures
     (c.put.ensures ∙ ap (sets a.room.now (record_length * a.tally.written)) (count-record a.on a.free k c.count_in_prime-count.result c.count_in_prime-count.ensures some))

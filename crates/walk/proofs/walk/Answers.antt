@@ -1,6 +1,6 @@
 -- `walk::walk` meets its contract: the loop stands where `Stand` says, and each way through a turn is one law of it. Assumes nothing.
 use mathlib.Core.Path.{◌≡◌, refl, ap}
-use Prim.Native.Nat.{◌-◌, ◌<◌, ◌≤◌}
+use Prim.Native.Nat.{◌<◌, ◌≤◌}
 use native.Mathlib.Nat.{pos_of_ne-zero}
 use native.Mathlib.Omega.{arith}
 use lib.ListN.{get_or}
@@ -14,23 +14,25 @@ use Rattle.walk.proofs.walk.Goals as goal
 use Rattle.walk.proofs.walk.Goals.{After-stop_of, Else-at-stop_of, Then-at-stop_of}
 
 pub start_of-i-requires : goal.start_of-i-requires
-start_of-i-requires c = omega (arith, c.requires.of_points_2.1.0, c.requires.of_points_2.1.1.0)
+start_of-i-requires c = omega (arith, c.requires.n_le_max_listed, c.requires.degree_le_n)
 
 pub loop-entry-init : goal.loop-entry-init
 loop-entry-init c =
     let a = c.args in
-    stand-start a.n a.on a.free a.degree a.point a.skip c.start_of_lem.result (starting a.allowance) a.room.now c.requires.of_points_2.1.0 c.requires.of_points_2.1.1.0 c.requires.of_points_2.1.1.1
-    c.start_of_lem.ensures refl
+    stand-start a.n a.on a.free a.degree a.point a.skip c.start_of-i.result (starting a.allowance) a.room.now c.requires.n_le_max_listed c.requires.degree_le_n c.requires.point_bound
+    c.start_of-i.ensures refl
 
 pub first_taken-found-requires : goal.first_taken-found-requires
-first_taken-found-requires c = let t = c.loop-entry.invariant in (c.table-table.ensures, (t.few, (six t, (t.point, (t.from, t.upto)))))
+first_taken-found-requires c =
+    let t = c.loop-entry.invariant in
+    record { table_value = c.table-table.ensures; n_le_max_listed = t.few; d_le_max_listed = six t; p_bound = t.point; d_bound = t.from; i_bound = t.upto }
 
 pub stop_of-requires : goal.stop_of-requires
 stop_of-requires c = six c.loop-entry.invariant
 
 -- The first entry taken, whether it is one, and that it is the table's.
 found : (c : After-stop_of)
-    →FirstTaken c.args.n c.loop-entry.d c.loop-entry.p c.loop-entry.i c.loop-entry.skip c.first_taken-found.result
+    → FirstTaken c.args.n c.loop-entry.d c.loop-entry.p c.loop-entry.i c.loop-entry.skip c.first_taken-found.result
 found c = c.first_taken-found.ensures
 
 within : (c : Then-at-stop_of) → c.first_taken-found.result.at < stop c.loop-entry.d
@@ -44,15 +46,21 @@ own : (c : Then-at-stop_of)
 own c = ap (λ l. get_or l c.first_taken-found.result.at 0) c.table-table.ensures
 
 pub offset_bounds-table-at : goal.offset_bounds-table-at
-offset_bounds-table-at c = omega (arith, within c, last c.loop-entry.invariant)
+offset_bounds-table-at c = omega (arith, c.if-at-stop_of.true, c.stop_of.ensures, last c.loop-entry.invariant)
 
 pub bounds-table-at : goal.bounds-table-at
-bounds-table-at c = omega (arith, within c, last c.loop-entry.invariant)
+bounds-table-at c = omega (arith, c.if-at-stop_of.true, c.stop_of.ensures, last c.loop-entry.invariant)
 
 pub pass-tally-requires : goal.pass-tally-requires
 pass-tally-requires c =
     let t = c.loop-entry.invariant in
-    (c.requires.of_points, (c.requires.of_points_2.0, (entry-stands t (found (goal.at.pass-tally-requires c).After-stop_of) (within (goal.at.pass-tally-requires c).Then-at-stop_of) (own (goal.at.pass-tally-requires c).Then-at-stop_of), omega (arith, t.kept.keeps, t.kept.wrote))))
+    let v = (goal.at.pass-tally-requires c).Then-at-stop_of in
+    record {
+      of_points = c.requires.of_points;
+      of_points_2 = c.requires.of_points_2;
+      entry_at = entry-stands t (found (goal.at.pass-tally-requires c).After-stop_of) (within v) (own v);
+      written_in_bounds = omega (arith, t.kept.keeps, t.kept.wrote);
+    }
 
 pub shape_of-room-then-tally : goal.shape_of-room-then-tally
 shape_of-room-then-tally c =
