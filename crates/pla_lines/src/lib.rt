@@ -70,6 +70,7 @@ fn end_fault(head: Head, number: u8) -> u8
 }
 
 // The refusal of a directive that may be given once and before the first cube, with what it says being wrong or not.
+#[tactic(auto, unfolding(table::specs::Refusal::first_fault))]
 fn once_fault(head: Head, given: bool, number: u8, wrong: bool) -> u8
     ensures { result ≡ first_fault (after_end head ∷ out_of_turn head given ∷ test number wrong ∷ []) }
 {
@@ -162,6 +163,7 @@ fn head_after(mut head: Head, statement: Statement, number: usize) -> Head
 }
 
 // The refusal of a cube by itself, or 0.
+#[tactic(auto, unfolding(table::specs::Refusal::first_fault))]
 fn shape_fault(content: &[u8], head: Head) -> u8
     ensures { result ≡ first_fault (shape_tests head (symbols_of content.now)) }
 {

@@ -30,28 +30,31 @@ pub output_symbol-symbol-requires : goal.output_symbol-symbol-requires
 output_symbol-symbol-requires c =
     let pre = c.requires in
     let args = c.args in
-    (pre.inputs, (pre.outputs, shape-cube args.head (symbols_of args.content.now) (sym c.shape_fault-fault.ensures ∙ c.if-fault-ne0.false)))
+    record {
+      n_le_max_variables = pre.inputs;
+      outputs_le_max_outputs = pre.outputs;
+      content_len = shape-cube args.head (symbols_of args.content.now) (sym c.shape_fault-fault.ensures ∙ c.if-fault-ne0.false);
+    }
 
 -- The cube is well formed, and the flags hold what its row and the rows before it say.
 module _ (c : After-clashes) where
-  abbrev start : Start
-  start = c{-Start-}
-
-  shaped : first_fault (shape_tests start.args.head (symbols_of start.args.content.now)) ≡ 0
+  shaped : first_fault (shape_tests c.args.head (symbols_of c.args.content.now)) ≡ 0
   shaped = sym c.shape_fault-fault.ensures ∙ c.if-fault-ne0.false
 
-  marked : (rows : List Row) → Flagged start.args.flags rows
-      → Flagged c.flags_with-marked.result (row_of start.args.head.variables start.args.output (symbols_of start.args.content.now) ∷ rows)
+  marked : (rows : List Row) → Flagged c.args.flags rows
+      → Flagged c.flags_with-marked.result (row_of c.args.head.variables c.args.output (symbols_of c.args.content.now) ∷ rows)
   marked rows f = rw (c.inputs_of-inputs.ensures, c.output_symbol-symbol.ensures) at (c.flags_with-marked.ensures rows f)
 
 pub returns-then-clashes : goal.returns-then-clashes
 returns-then-clashes c =
-    let s = start (goal.at.returns-then-clashes c).After-clashes in
-    λ rows f. cube-clashes s.args.number s.args.head s.args.output (symbols_of s.args.content.now) rows f (shaped (goal.at.returns-then-clashes c).After-clashes) c.flags_with-marked.result s.pre.inputs (marked (goal.at.returns-then-clashes c).After-clashes rows f)
+    let at = (goal.at.returns-then-clashes c).After-clashes in
+    let args = c.args in
+    λ rows f. cube-clashes args.number args.head args.output (symbols_of args.content.now) rows f (shaped at) c.flags_with-marked.result c.requires.inputs (marked at rows f)
     c.clashes.result c.clashes.ensures c.if-clashes.true c.refused-then-clashes.ensures
 
 pub returns : goal.returns
 returns c =
-    let s = start (goal.at.returns c).After-clashes in
-    λ rows f. cube-accepted s.args.number s.args.head s.args.output (symbols_of s.args.content.now) rows f (shaped (goal.at.returns c).After-clashes) c.flags_with-marked.result s.pre.inputs (marked (goal.at.returns c).After-clashes rows f)
+    let at = (goal.at.returns c).After-clashes in
+    let args = c.args in
+    λ rows f. cube-accepted args.number args.head args.output (symbols_of args.content.now) rows f (shaped at) c.flags_with-marked.result c.requires.inputs (marked at rows f)
     c.clashes.result c.clashes.ensures c.if-clashes.false c.head_after-next.ensures

@@ -1,8 +1,6 @@
 -- `pla_lines::read_line` meets its contract: what stands before the comment is a cube or not. Assumes nothing.
-use mathlib.Core.Logic.{◌≢◌}
-use Rattle.pla_text.specs.declared.Statement.{Statement}
 use mathlib.Core.Path.{◌≡◌, sym, ◌∙◌, subst}
-use mathlib.Core.List.{List, [], ◌∷◌}
+use mathlib.Core.List.{List}
 use Prim.Native.Nat.{ℕ}
 use lib.Seq.{length-take-le}
 use Rattle.pla_text.specs.Text.{symbols_of, content_of, words_of}
@@ -10,15 +8,8 @@ use Rattle.pla_lines.specs.Reading.{read_content, read_statement}
 use Rattle.pla_lines.specs.Bounds.{GatheredBy}
 use Rattle.pla_lines.proofs.Going.{content-cut}
 use Rattle.pla_text.specs.Statements.{statement_of}
-use denote.Enum.Declared.{tag_of}
-use types.Run.{OneOf, miss}
 use Rattle.pla_text.specs.declared.Statement.TheVariants.{Cube}
-use Rattle.pla_text.specs.contracts.Statement.{the_type}
 use Rattle.pla_lines.proofs.read_line.Goals as goal
-
--- Every statement of the enum but a cube is none.
-not-cube : (k : Statement) → OneOf (0 ∷ 1 ∷ 2 ∷ 3 ∷ 4 ∷ 5 ∷ 6 ∷ 7 ∷ []) (tag_of the_type k) → k ≢ Cube
-not-cube k h e = miss (0 ∷ 1 ∷ 2 ∷ 3 ∷ 4 ∷ 5 ∷ 6 ∷ 7 ∷ []) 8 tt (rw e at h)
 
 pub slice_bounds-content-end : goal.slice_bounds-content-end
 slice_bounds-content-end c =
@@ -51,5 +42,4 @@ returns-in_default c =
     λ rows f.
     let cut = (content-cut args.line.now run_end.result run_end.ensures).1 in
     let s : line-statement.result ≡ statement_of (words_of (content_of args.line.now)) = rw (← cut) line-statement.ensures in
-    let other = not-cube line-statement.result c.in-Cube.keys2 in
-    rw s at (c.read_directive.ensures args.output rows (symbols_of (content_of args.line.now)) f other)
+    rw s at (c.read_directive.ensures args.output rows (symbols_of (content_of args.line.now)) f c.in_default.not-Cube)

@@ -1,6 +1,5 @@
 -- `pla_lines::read_lines` meets its contract. The loop's invariant: the lines from its place on complete the reading, with the head and the flags so far. Assumes nothing.
 use mathlib.Core.List.{[]}
-use Prim.Native.Nat.{◌-◌}
 use native.Mathlib.Omega.{arith}
 use Rattle.pla_lines.proofs.Going.{line-inside, stopped, finished, going, none-flagged, none-bounded, text-start}
 use Rattle.pla_lines.proofs.read_lines.Goals as goal
