@@ -2,7 +2,6 @@
 use mathlib.Core.Path.{◌≡◌, sym, ◌∙◌, subst}
 use mathlib.Core.Bool.{true}
 use Prim.Native.Nat.{ℕ}
-use borrow.Author.Tests.{not-true, not-false}
 use Rattle.gf2.proofs.Xor.{bit-zero}
 use Rattle.gf2.proofs.Logic.{clash}
 use Rattle.bases.specs.Bases.{fits_entry}
@@ -11,19 +10,14 @@ use Rattle.bases.specs.Entry.{EntryAt}
 use Rattle.choice.proofs.Reductions.{six, entry-positive, holding-entry}
 use Rattle.choice.proofs.Best.{better-wide, better-stays, better-fails, better-new}
 use Rattle.choice.proofs.better.Goals as goal
-use Rattle.choice.proofs.better.Goals.{Else-not-fits}
 
 pub returns-then-not-fits : goal.returns-then-not-fits
 returns-then-not-fits c =
     let a = c.args in
-    better-wide (prime_by a.m a.on 0) a.m a.d a.x a.entry a.best (sym c.fits2.ensures ∙ not-true c.fits2.result c.if-not-fits.true)
+    better-wide (prime_by a.m a.on 0) a.m a.d a.x a.entry a.best (sym c.fits.ensures ∙ c.if-not-fits.true)
 
 pub least_point-point-requires : goal.least_point-point-requires
 least_point-point-requires c = entry-positive c.args.d c.args.entry (six c.requires.search) c.requires.mem
-
--- The entry fits.
-fits : (c : Else-not-fits) → fits_entry c.args.m c.args.entry ≡ true
-fits c = sym c.fits2.ensures ∙ not-false c.fits2.result c.if-not-fits.false
 
 pub returns-then-stays : goal.returns-then-stays
 returns-then-stays c =
@@ -36,7 +30,7 @@ is_prime-requires c =
       c.requires.search.inside,
       (
         λ x t. clash t (bit-zero x),
-        subst (λ (z : ℕ). EntryAt a.m a.d z a.entry) (sym c.least_point-point.ensures) (holding-entry c.requires.search a.entry c.requires.mem (fits (goal.at.is_prime-requires c).Else-not-fits)),
+        subst (λ (z : ℕ). EntryAt a.m a.d z a.entry) (sym c.least_point-point.ensures) (holding-entry c.requires.search a.entry c.requires.mem (sym c.fits.ensures ∙ c.if-not-fits.false)),
       ),
     )
 
@@ -44,10 +38,10 @@ pub returns-then-not-is_prime : goal.returns-then-not-is_prime
 returns-then-not-is_prime c =
     let a = c.args in
     better-fails (prime_by a.m a.on 0) a.m a.d a.x a.entry a.best c.least_point-point.result c.least_point-point.ensures
-    (sym c.is_prime.ensures ∙ not-true c.is_prime.result c.if-not-is_prime.true)
+    (sym c.is_prime.ensures ∙ c.if-not-is_prime.true)
 
 pub returns : goal.returns
 returns c =
     let a = c.args in
-    better-new (prime_by a.m a.on 0) a.m a.d a.x a.entry a.best c.least_point-point.result c.least_point-point.ensures (fits (goal.at.returns c).Else-not-fits)
-    (sym c.stays.ensures ∙ c.if-stays.false) (sym c.is_prime.ensures ∙ not-false c.is_prime.result c.if-not-is_prime.false)
+    better-new (prime_by a.m a.on 0) a.m a.d a.x a.entry a.best c.least_point-point.result c.least_point-point.ensures (sym c.fits.ensures ∙ c.if-not-fits.false)
+    (sym c.stays.ensures ∙ c.if-stays.false) (sym c.is_prime.ensures ∙ c.if-not-is_prime.false)

@@ -6,21 +6,22 @@ use Prim.Native.Nat.{ℕ, ◌+◌, ◌-◌, ◌≤◌, ◌<◌}
 use native.Mathlib.Omega.{arith}
 use lib.Pow.{pow_mono}
 use lib.ListN.{length, get_or}
-use borrow.Author.Tests.{not-true, not-false}
 use Rattle.table.specs.Table.{outside}
 use Rattle.table.specs.Flags.{max_points}
 use Rattle.table.proofs.Table.{inside-at, outside-more}
-use Rattle.bases.specs.Entry.{EntryAt}
+use Rattle.cubes.specs.Lists.{keep}
+use Rattle.cubes.specs.Cubes.{Candidate}
+use Rattle.cubes.specs.Candidates.{candidates}
+use Rattle.masks.specs.Points.{MaskOf, prime_by}
 use Rattle.cover.specs.Choice.{primes_of, covered, first_holding}
 use Rattle.choice.specs.declared.Choice.{Choice}
 use Rattle.choice.specs.Search.{found_of}
 use Rattle.choice.specs.Chosen.{max_chosen, chosen_by}
 use Rattle.choice.proofs.Taking.{primes-by, search-at, TakenTo, taken_start, taken-covered, taken-nothing, taken-one, few-points, taken-end}
 use Rattle.choice.proofs.choose.Goals as goal
-use Rattle.choice.proofs.choose.Goals.{After-first_holding-found, Else-flags-flag_place, Else-not-found}
 
 pub mask_of-mask-requires : goal.mask_of-mask-requires
-mask_of-mask-requires c = outside-more c.args.m c.args.on.now c.requires.m_le_max_listed c.requires.on_value.0
+mask_of-mask-requires c = outside-more c.args.m c.args.on.now c.requires.m_le_max_listed c.requires.on_value
 
 pub loop-i-init : goal.loop-i-init
 loop-i-init c = taken_start c.args.m c.args.on.now
@@ -35,61 +36,57 @@ flag_is {m} {on} {i} {flags} w h o l place q t e = sym (w.flagged (get_or on i 0
 
 pub bounds-flags-flag_place : goal.bounds-flags-flag_place
 bounds-flags-flag_place c =
-    omega (arith, c.flag_place.ensures, has-flag c.args.m c.args.on.now c.loop-i.i c.requires.m_le_max_listed c.requires.on_value.0 c.loop-i-test.true)
+    omega (arith, c.flag_place.ensures, has-flag c.args.m c.args.on.now c.loop-i.i c.requires.m_le_max_listed c.requires.on_value c.loop-i-test.true)
 
 pub loop-i-preserved-then-flags-flag_place : goal.loop-i-preserved-then-flags-flag_place
 loop-i-preserved-then-flags-flag_place c =
     let h = c.loop-i-test.true in
     taken-covered c.args.m c.args.on.now c.loop-i.i c.loop-i.flags c.loop-i.choice c.loop-i.invariant h
-    (flag_is c.loop-i.invariant c.requires.m_le_max_listed c.requires.on_value.0 h c.flag_place.result c.flag_place.ensures true c.if-flags-flag_place.true)
+    (flag_is c.loop-i.invariant c.requires.m_le_max_listed c.requires.on_value h c.flag_place.result c.flag_place.ensures true c.if-flags-flag_place.true)
 
 pub first_holding-found-requires : goal.first_holding-found-requires
 first_holding-found-requires c =
     let on = c.args.on.now in record {
       table_value = c.table-table.ensures;
-      search = search-at c.args.m on c.mask_of-mask.result (get_or on c.loop-i.i 0) c.requires.m_le_max_listed c.requires.on_value.0 c.mask_of-mask.ensures
-          (inside-at c.args.m on c.requires.on_value.0 c.loop-i.i c.loop-i-test.true);
+      search = search-at c.args.m on c.mask_of-mask.result (get_or on c.loop-i.i 0) c.requires.m_le_max_listed c.requires.on_value c.mask_of-mask.ensures
+          (inside-at c.args.m on c.requires.on_value c.loop-i.i c.loop-i-test.true);
     }
 
 -- What the search found is the first of the primes of the function.
-first : (c : After-first_holding-found) →    found_of c.first_holding-found.result ≡ first_holding (primes_of c.args.m c.args.on.now) (get_or c.args.on.now c.loop-i.i 0)
-first c =
-    let on = c.args.on.now in
-    c.first_holding-found.ensures.result_value ∙ ap (λ z. first_holding z (get_or on c.loop-i.i 0)) (sym (primes-by c.args.m on c.mask_of-mask.result c.mask_of-mask.ensures))
-
--- The point is not covered.
-uncovered : (c : Else-flags-flag_place) →    covered (chosen_by c.loop-i.choice c.loop-i.choice.count) (get_or c.args.on.now c.loop-i.i 0) ≡ false
-uncovered c =
-    flag_is c.loop-i.invariant c.requires.m_le_max_listed c.requires.on_value.0 c.loop-i-test.true c.flag_place.result c.flag_place.ensures false c.if-flags-flag_place.false
+first : (m : ℕ) (on : List ℕ) (mask x : ℕ) (r : List Candidate) → MaskOf on mask → r ≡ first_holding (keep (prime_by m mask 0) (candidates m)) x → r ≡ first_holding (primes_of m on) x
+first m on mask x r h e = e ∙ ap (λ z. first_holding z x) (sym (primes-by m on mask h))
 
 pub loop-i-preserved-then-not-found : goal.loop-i-preserved-then-not-found
 loop-i-preserved-then-not-found c =
-    taken-nothing c.args.m c.args.on.now c.loop-i.i c.loop-i.flags c.loop-i.choice c.loop-i.invariant c.loop-i-test.true (uncovered (goal.at.loop-i-preserved-then-not-found c).Else-flags-flag_place) c.first_holding-found.result (first (goal.at.loop-i-preserved-then-not-found c).After-first_holding-found)
-    (not-true c.first_holding-found.result.any c.if-not-found.true)
-
--- There is room for one more.
-room : (c : Else-not-found) → c.loop-i.choice.count < max_chosen
-room c =
-    omega (arith, c.loop-i.invariant.count, c.loop-i-test.true, few-points c.args.m c.args.on.now c.requires.m_le_max_listed c.requires.on_value.0 c.requires.on_value.1)
-
--- What was found is an entry with a least point.
-entry : (c : Else-not-found) → let f = c.first_holding-found.result in
-    EntryAt c.args.m f.degree f.point f.entry
-entry c = let f = c.first_holding-found in f.ensures.1 (not-false f.result.any c.if-not-found.false)
+    let a = c.args in
+    let l = c.loop-i in
+    let f = c.first_holding-found in
+    let h = c.loop-i-test.true in
+    taken-nothing a.m a.on.now l.i l.flags l.choice l.invariant h
+    (flag_is l.invariant c.requires.m_le_max_listed c.requires.on_value h c.flag_place.result c.flag_place.ensures false c.if-flags-flag_place.false) f.result
+    (first a.m a.on.now c.mask_of-mask.result (get_or a.on.now l.i 0) (found_of f.result) c.mask_of-mask.ensures f.ensures.result_value)
+    c.if-not-found.true
 
 pub add-choice-requires : goal.add-choice-requires
-add-choice-requires c = room c
+add-choice-requires c =
+    omega (arith, c.loop-i.invariant.count, c.loop-i-test.true, few-points c.args.m c.args.on.now c.requires.m_le_max_listed c.requires.on_value c.requires.on_value_2)
 
 pub mark_prime-flags-requires : goal.mark_prime-flags-requires
-mark_prime-flags-requires c = entry (goal.at.mark_prime-flags-requires c).Else-not-found
+mark_prime-flags-requires c = c.first_holding-found.ensures.found_at c.if-not-found.false
 
 pub loop-i-preserved : goal.loop-i-preserved
 loop-i-preserved c =
-    let r = c.loop-i.choice in
-    subst (TakenTo c.args.m c.args.on.now (c.loop-i.i + 1) c.mark_prime-flags.result) (sym c.add-choice.ensures)
-    (taken-one c.args.m c.args.on.now c.loop-i.i c.loop-i.flags r c.loop-i.invariant c.loop-i-test.true (uncovered (goal.at.loop-i-preserved c).Else-flags-flag_place) c.first_holding-found.result (first (goal.at.loop-i-preserved c).After-first_holding-found)
-    (not-false c.first_holding-found.result.any c.if-not-found.false) (entry (goal.at.loop-i-preserved c).Else-not-found) (room (goal.at.loop-i-preserved c).Else-not-found) c.mark_prime-flags.result c.mark_prime-flags.ensures)
+    let a = c.args in
+    let l = c.loop-i in
+    let f = c.first_holding-found in
+    let h = c.loop-i-test.true in
+    subst (TakenTo a.m a.on.now (l.i + 1) c.mark_prime-flags.result) (sym c.add-choice.ensures)
+    (taken-one a.m a.on.now l.i l.flags l.choice l.invariant h
+    (flag_is l.invariant c.requires.m_le_max_listed c.requires.on_value h c.flag_place.result c.flag_place.ensures false c.if-flags-flag_place.false) f.result
+    (first a.m a.on.now c.mask_of-mask.result (get_or a.on.now l.i 0) (found_of f.result) c.mask_of-mask.ensures f.ensures.result_value)
+    c.if-not-found.false (f.ensures.found_at c.if-not-found.false)
+    (omega (arith, l.invariant.count, h, few-points a.m a.on.now c.requires.m_le_max_listed c.requires.on_value c.requires.on_value_2)) c.mark_prime-flags.result c.mark_prime-flags.ensures)
 
 pub returns : goal.returns
 returns c =
-    taken-end c.args.m c.args.on.now c.loop-i.i c.loop-i.flags c.loop-i.choice c.loop-i.invariant c.loop-i-test.false (few-points c.args.m c.args.on.now c.requires.m_le_max_listed c.requires.on_value.0 c.requires.on_value.1)
+    taken-end c.args.m c.args.on.now c.loop-i.i c.loop-i.flags c.loop-i.choice c.loop-i.invariant c.loop-i-test.false (few-points c.args.m c.args.on.now c.requires.m_le_max_listed c.requires.on_value c.requires.on_value_2)

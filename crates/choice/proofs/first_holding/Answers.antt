@@ -28,8 +28,8 @@ returns-then-found c =
     let l = c.loop-found in
     let f = c.first_of_degree-found in
     let o = found-one f.result c.if-found.true in record {
-      result_value = o ∙ sym (from_found (prime_by a.m a.on 0) a.m a.x l.d (candidate_at f.result.degree f.result.point f.result.entry) (sym f.ensures.0 ∙ o)) ∙ l.invariant.1;
-      found_at = f.ensures.1;
+      result_value = o ∙ sym (from_found (prime_by a.m a.on 0) a.m a.x l.d (candidate_at f.result.degree f.result.point f.result.entry) (sym f.ensures.result_value ∙ o)) ∙ l.invariant.1;
+      found_at = f.ensures.found_at;
     }
 
 pub returns-then-d-eq0 : goal.returns-then-d-eq0
@@ -37,7 +37,7 @@ returns-then-d-eq0 c =
     let a = c.args in
     let l = c.loop-found in
     let f = c.first_of_degree-found in
-    record { result_value = f.ensures.0 ∙ from_last (prime_by a.m a.on 0) a.m a.x l.d c.if-d-eq0.true ∙ l.invariant.1; found_at = f.ensures.1 }
+    record { result_value = f.ensures.result_value ∙ from_last (prime_by a.m a.on 0) a.m a.x l.d c.if-d-eq0.true ∙ l.invariant.1; found_at = f.ensures.found_at }
 
 pub loop-found-preserved : goal.loop-found-preserved
 loop-found-preserved c =
@@ -45,5 +45,5 @@ loop-found-preserved c =
     let l = c.loop-found in
     let f = c.first_of_degree-found in (
       omega (arith, l.invariant.0),
-      sym (from_next (prime_by a.m a.on 0) a.m a.x l.d (pos_of_ne-zero c.if-d-eq0.false) (sym f.ensures.0 ∙ found_none f.result c.if-found.false)) ∙ l.invariant.1,
+      sym (from_next (prime_by a.m a.on 0) a.m a.x l.d (pos_of_ne-zero c.if-d-eq0.false) (sym f.ensures.result_value ∙ found_none f.result c.if-found.false)) ∙ l.invariant.1,
     )

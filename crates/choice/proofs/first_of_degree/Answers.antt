@@ -12,7 +12,6 @@ use Rattle.bases.proofs.Bounds.{bounds, entry-mem}
 use Rattle.choice.proofs.Reductions.{six}
 use Rattle.choice.proofs.Best.{Best, best-start, best-step, best-entry, best-first}
 use Rattle.choice.proofs.first_of_degree.Goals as goal
-use Rattle.choice.proofs.first_of_degree.Goals.{In-loop-i}
 
 pub start_of-i-requires : goal.start_of-i-requires
 start_of-i-requires c = six c.requires.search
@@ -26,34 +25,28 @@ loop-i-init c =
     subst (λ (z : ℕ). Best (prime_by a.m a.on 0) a.m a.d a.x z (record { any = false; degree = 0; point = 0; entry = 0 })) (sym c.start_of_lem.ensures)
     (best-start (prime_by a.m a.on 0) a.m a.d a.x (six c.requires.search) (record { any = false; degree = 0; point = 0; entry = 0 }) refl)
 
--- The place is before the end of the entries, and the entry is the table's.
-within : (c : In-loop-i) → c.loop-i.i < stop c.args.d
-within c = omega (arith, c.loop-i-test.true, c.stop_of-end.ensures)
-
-last : (c : In-loop-i) → c.loop-i.i < entry_count
-last c =omega (arith, within c, (bounds c.args.d (six c.requires.search)).1)
-
-own : (c : In-loop-i) → get_or c.args.table.now c.loop-i.i 0 ≡ get_or entries c.loop-i.i 0
-own c = ap (λ l. get_or l c.loop-i.i 0) c.requires.table_value
+-- The place is before the end of the entries.
+last : (d i : ℕ) → d ≤ 6 → i < stop d → i < entry_count
+last d i h l = omega (arith, (bounds d h).1)
 
 pub offset_bounds-table-i : goal.offset_bounds-table-i
-offset_bounds-table-i c = omega (arith, last c)
+offset_bounds-table-i c = omega (arith, last c.args.d c.loop-i.i (six c.requires.search) (omega (arith, c.loop-i-test.true, c.stop_of-end.ensures)))
 
 pub bounds-table-i : goal.bounds-table-i
-bounds-table-i c = last c
+bounds-table-i c = last c.args.d c.loop-i.i (six c.requires.search) (omega (arith, c.loop-i-test.true, c.stop_of-end.ensures))
 
 pub better-best-requires : goal.better-best-requires
 better-best-requires c =
     let b = c.loop-i in record {
       search = c.requires.search;
-      mem = subst (λ (z : ℕ). Mem z (entries_of c.args.d)) (sym (own (goal.at.better-best-requires c).After-way_told-1)) (entry-mem c.args.d b.i (six c.requires.search) b.invariant.low (within (goal.at.better-best-requires c).After-way_told-1));
+      mem = subst (λ (z : ℕ). Mem z (entries_of c.args.d)) (sym (ap (λ l. get_or l c.loop-i.i 0) c.requires.table_value)) (entry-mem c.args.d b.i (six c.requires.search) b.invariant.low (omega (arith, c.loop-i-test.true, c.stop_of-end.ensures)));
     }
 
 pub loop-i-preserved : goal.loop-i-preserved
 loop-i-preserved c =
     let a = c.args in
     let b = c.loop-i in
-    best-step (prime_by a.m a.on 0) a.m a.d a.x b.i (six c.requires.search) b.best b.invariant (within (goal.at.loop-i-preserved c).After-way_told-1) (get_or a.table.now b.i 0) (own (goal.at.loop-i-preserved c).After-way_told-1) c.better-best.result c.better-best.ensures
+    best-step (prime_by a.m a.on 0) a.m a.d a.x b.i (six c.requires.search) b.best b.invariant (omega (arith, c.loop-i-test.true, c.stop_of-end.ensures)) (get_or a.table.now b.i 0) (ap (λ l. get_or l c.loop-i.i 0) c.requires.table_value) c.better-best.result c.better-best.ensures
 
 pub returns : goal.returns
 returns c =
