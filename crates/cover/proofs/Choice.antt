@@ -119,6 +119,7 @@ first_found (c ∷ l) x e = go (points_of c x) refl (first_found l x)
 
 first-mem : (l : List Candidate) (x : ℕ) (c : Candidate) → Mem c (first_holding l x) → Mem c l
 unfolding first_holding
+first-mem [] x c h = elim h [ ]
 first-mem (d ∷ l) x c i = cond_cases (λ z. Mem c z → Mem c (d ∷ l)) (points_of d x) (d ∷ []) (first_holding l x)
     (λ e k. elim k [ inl q ↦ inl q | inr z ↦ absurd z ]) (λ e k. inr (first-mem l x c k)) i
 
@@ -167,6 +168,7 @@ through-keeps primes taken (x ∷ xs) y e = through-keeps primes (taken ++ taken
 pub through-covers : (primes taken : List Candidate) (xs : List ℕ) → ((x : ℕ) → Mem x xs → covered primes x ≡ true)
     → (y : ℕ) → Mem y xs → covered (taken_through primes taken xs) y ≡ true
 unfolding taken_through
+through-covers primes taken [] h y m = elim m [ ]
 through-covers primes taken (x ∷ xs) h y (inl q) =
     rw q (through-keeps primes (taken ++ taken_for primes taken x) xs x (taken-covers primes taken x (h x (inl refl))))
 through-covers primes taken (x ∷ xs) h y (inr i) = through-covers primes (taken ++ taken_for primes taken x) xs (λ z k. h z (inr k)) y i
@@ -181,6 +183,7 @@ through-length primes taken (x ∷ xs) =
 -- A point that was covered before takes none.
 pub through-fewer : (primes taken : List Candidate) (xs : List ℕ) (y : ℕ) → Mem y xs → covered taken y ≡ true → suc (length (taken_through primes taken xs)) ≤ length taken + length xs
 unfolding taken_through taken_for
+through-fewer primes taken [] y h e = elim h [ ]
 through-fewer primes taken (x ∷ xs) y (inl q) e =
     let c : covered taken x ≡ true = subst (λ (z : ℕ). covered taken z ≡ true) q e in
     rw c (omega (arith, through-length primes (taken ++ []) xs, length-append taken ([])))

@@ -6,7 +6,6 @@ use mathlib.Core.Logic.{◌⊎◌, inl, inr, ◌≢◌}
 use mathlib.Core.List.{List, [], ◌∷◌}
 use Prim.Native.Nat.{ℕ, zero, suc, ◌+◌, ◌^◌, ◌≤◌, ◌<◌}
 use native.Mathlib.Omega.{arith}
-use lib.ListN.{length}
 use lib.Bits.{xor_lt}
 use borrow.Author.Tests.{eqb-false, not-false}
 use Rattle.gf2.specs.Bits.{◌⊕◌}
