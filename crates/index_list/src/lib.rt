@@ -1,5 +1,5 @@
-// The two loops over the index of a form in a list that the caller lends (document 02, No. 5): `matches` looks at its records, `update` changes them. The checker doesn't
-// cover a slice of structs, so both are walked by hand, and all that is decided of one record is decided in crate `index`. Read next: proofs/Walk.antt.
+// The two loops over the index of a form in a list that the caller lends (document 02, No. 5): `matches` looks at its records, `update` changes them.
+// All that is decided of one record is decided in crate `index`. Read next: src/lib.rt of crate `glospruma`.
 #![tactic(auto)]
 
 ghost use Rattle.std.specs.Prelude.{◌≡◌, length};

@@ -60,7 +60,7 @@ returns-then-too_short c =
     let less = ltb-true (length a.room.now) (length a.form.now + length a.product.now) (sym c.too_short.ensures ∙ c.if-too_short.true) in
     let short : length a.room.now < length (appended_bytes a.form.now a.product.now) = omega (arith, long e, less) in
     let h = (append-ways a.form.now a.product.now a.records a.same a.room.now).short (none e) short _
-        (c.refused-then-too_short.ensures ∙ ap (λ (f : Fault). index_refused f.place f.number) c.fault_at.ensures) in
+    (c.refused-then-too_short.ensures ∙ ap (λ (f : Fault). index_refused f.place f.number) c.fault_at.ensures) in
     record { value = h.0; room_after = h.1 }
 
 -- Past the second test the room has place for it.
@@ -105,6 +105,6 @@ returns c =
     = ap (λ (m : ℕ). m + 1) c.product_count-products.ensures ∙ sym (length-append (form_products a.form.now) (decode_product a.product.now ∷ [])) in
     let some : length (appended_bytes a.form.now a.product.now) ≤ length a.room.now = omega (arith, long f, enough (goal.at.returns c).Else-too_short) in
     let h = (append-ways a.form.now a.product.now a.records a.same a.room.now).whole (none f) some _ _
-        (rw (c.form_variables.ensures, count, long f) refl)
-        (c.put_form.ensures ∙ ap (λ (m : ℕ). front ((take (end f) a.form.now ++ a.product.now) ++ encode_end (m + 1)) a.room.now) c.product_count-products.ensures ∙ ap (λ (l : List ℕ). front l a.room.now) (sym written)) in
+    (rw (c.form_variables.ensures, count, long f) refl)
+    (c.put_form.ensures ∙ ap (λ (m : ℕ). front ((take (end f) a.form.now ++ a.product.now) ++ encode_end (m + 1)) a.room.now) c.product_count-products.ensures ∙ ap (λ (l : List ℕ). front l a.room.now) (sym written)) in
     record { value = h.0; room_after = h.1 }

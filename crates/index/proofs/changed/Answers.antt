@@ -39,7 +39,6 @@ product_seen-seen-requires-in-2 c = c.requires.last c.in-2.is
 pub overflow_cast-point-in_default : goal.overflow_cast-point-in_default
 overflow_cast-point-in_default c = omega (arith, c.requires.point)
 
-
 pub record_at-requires : goal.record_at-requires
 record_at-requires c = c.requires.form (search rules) (search rules)
 

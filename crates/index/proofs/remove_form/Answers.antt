@@ -66,7 +66,7 @@ returns-then-room-last c =
     let a = c.args in
     let less : length a.room.now < length (removed_bytes a.form.now) = omega (arith, removed-length a.form.now, c.last_product-last.ensures) in
     let h = (remove-ways a.form.now a.records a.same a.room.now).short (none (goal.at.returns-then-room-last c).Else-fault-ne0) less _
-        (c.refused-then-room-last.ensures ∙ ap (λ (f : Fault). index_refused f.place f.number) c.fault_at.ensures) in
+    (c.refused-then-room-last.ensures ∙ ap (λ (f : Fault). index_refused f.place f.number) c.fault_at.ensures) in
     record { value = h.0; room_after = h.1 }
 
 pub slice_bounds-put_form-end : goal.slice_bounds-put_form-end
@@ -102,7 +102,7 @@ returns c =
     let long : c.last_product-last.result + word_record_length ≡ length (removed_bytes a.form.now) = omega (arith, place, removed-length a.form.now) in
     let enough : length (removed_bytes a.form.now) ≤ length a.room.now = omega (arith, long) in
     let h = (remove-ways a.form.now a.records a.same a.room.now).whole (none f) enough _ _
-        (rw (c.form_variables.ensures, count, long) refl)
-        (c.put_form.ensures ∙ ap₂ (λ (k m : ℕ). front ((take k a.form.now ++ []) ++ encode_end (m - 1)) a.room.now) place counted
-        ∙ ap (λ (x : List ℕ). front x a.room.now) (sym (removed-written a.form.now (form-bytes f) s.form-sound s.some))) in
+    (rw (c.form_variables.ensures, count, long) refl)
+    (c.put_form.ensures ∙ ap₂ (λ (k m : ℕ). front ((take k a.form.now ++ []) ++ encode_end (m - 1)) a.room.now) place counted
+    ∙ ap (λ (x : List ℕ). front x a.room.now) (sym (removed-written a.form.now (form-bytes f) s.form-sound s.some))) in
     record { value = h.0; room_after = h.1 }

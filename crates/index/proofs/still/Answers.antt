@@ -33,7 +33,6 @@ returns-then-not-right c =
 pub overflow_cast-point : goal.overflow_cast-point
 overflow_cast-point c = omega (arith, point-small c.args.form.now c.args.point c.requires)
 
-
 pub returns-then-old-wanted : goal.returns-then-old-wanted
 returns-then-old-wanted c =
     let a = c.args in
