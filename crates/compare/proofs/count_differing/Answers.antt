@@ -1,8 +1,7 @@
 -- `compare::count_differing` meets its contract: the count so far is that of the differing points below p. Assumes nothing.
 use mathlib.Core.Path.{◌≡◌, refl, ap, ◌∙◌}
 use mathlib.Core.Bool.{true, false}
-use mathlib.Core.Logic.{⊎_elim}
-use Prim.Native.Nat.{ℕ, ◌-◌}
+use Prim.Native.Nat.{ℕ}
 use native.Mathlib.Omega.{arith}
 use borrow.Author.Tests.{eq-eqb, ne_eqb}
 use lib.ListN.{length}
@@ -12,6 +11,7 @@ use Rattle.table.proofs.Selecting.{count-step}
 use Rattle.point_marks.specs.Marks.{mark_at}
 use Rattle.compare.specs.Differences.{differs, differing}
 use Rattle.compare.proofs.count_differing.Goals as goal
+use Rattle.compare.proofs.count_differing.Goals.{then-left-p, else-left-p}
 
 pub loop-p-init : goal.loop-p-init
 unfolding select
@@ -29,9 +29,10 @@ loop-p-preserved c =
     let a = c.args in
     let t = differs (mark_at a.left.now) (mark_at a.right.now) in (
       omega arith,
-      ⊎_elim
-          (λ w. count-step t l.p l.count c.if-left-p.count l.invariant.1 true (rw (ne_eqb _ _ w.0.true)) w.1)
-          (λ w. count-step t l.p l.count c.if-left-p.count l.invariant.1 false (rw (eq-eqb _ _ w.0.left)) w.1) c.if-left-p.branch,
+      elim c.if-left-p.branch [
+        | then-left-p w ↦ count-step t l.p l.count c.if-left-p.count l.invariant.1 true (rw (ne_eqb _ _ w.if-left-p.true)) w.count-is
+        | else-left-p w ↦ count-step t l.p l.count c.if-left-p.count l.invariant.1 false (rw (eq-eqb _ _ w.if-left-p.false)) w.count-is
+      ],
     )
 
 pub overflow_cast-result : goal.overflow_cast-result

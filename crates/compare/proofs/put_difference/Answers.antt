@@ -8,7 +8,7 @@ use Rattle.compare.proofs.put_difference.Goals as goal
 pub bounds-room-at-2 : goal.bounds-room-at-2
 bounds-room-at-2 c =
     let w = c.put_word in
-    let long : length w.new.0 ≡ length c.args.room.now = ap length w.ensures ∙ simp length-set in
+    let long : length w.new.room ≡ length c.args.room.now = ap length w.ensures ∙ simp length-set in
     simp length-set (omega arith)
 
 pub returns : goal.returns

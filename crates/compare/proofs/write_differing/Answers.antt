@@ -1,6 +1,6 @@
 -- `compare::write_differing` meets its contract: one law for each way through a turn, over what is passed so far. Assumes nothing.
 use mathlib.Core.Path.{◌≡◌}
-use Prim.Native.Nat.{◌+◌, ◌*◌, ◌≤◌, ◌-◌}
+use Prim.Native.Nat.{◌+◌, ◌*◌, ◌≤◌}
 use native.Mathlib.Omega.{arith}
 use lib.ListN.{length}
 use Rattle.point_marks.specs.Marks.{mark_at}
@@ -26,11 +26,12 @@ shape_of-room-then-records-fit c =
 pub returns-then-records-fit : goal.returns-then-records-fit
 returns-then-records-fit c =
     let a = c.args in
-    passed-stops (mark_at a.left.now) (mark_at a.right.now) a.first a.room.now c.loop-p.invariant.2 a.size c.loop-p-test.true c.if-left-p.false c.if-records-fit.true
+    let s = passed-stops (mark_at a.left.now) (mark_at a.right.now) a.first a.room.now c.loop-p.invariant.2 a.size c.loop-p-test.true c.if-left-p.false c.if-records-fit.true in
+    record { value = s.0; room_after = s.1 }
 
 -- Before a differing point that fits.
 room-left : (c : Else-records-fit)
-    →difference_length * c.loop-p.records + difference_length ≤ length c.args.room.now
+    → difference_length * c.loop-p.records + difference_length ≤ length c.args.room.now
 room-left c = omega (arith, c.loop-p.invariant.1, c.if-records-fit.false)
 
 pub overflow_mul-records : goal.overflow_mul-records
@@ -62,4 +63,5 @@ returns c =
     let loop = c.loop-p in
     let a = c.args in
     let e : loop.p ≡ a.size = omega (arith, loop.invariant.0, c.loop-p-test.false) in
-    passed-ends (mark_at a.left.now) (mark_at a.right.now) a.first a.room.now loop.invariant.2 a.size e
+    let s = passed-ends (mark_at a.left.now) (mark_at a.right.now) a.first a.room.now loop.invariant.2 a.size e in
+    record { value = s.0; room_after = s.1 }
