@@ -7,7 +7,7 @@ use Rattle.listing.specs.Answers.{call_of}
 use Rattle.listing.proofs.Refusals.{sound-few, sound-on, sound-free, on-points, free-points}
 use Rattle.listing.proofs.Finish.{refused-numbers, refused-room, Finished, finish}
 use Rattle.listing.proofs.list_primes.Goals as goal
-use Rattle.listing.proofs.list_primes.Goals.{After-struct_known-1, Else-fault-ne0}
+use Rattle.listing.proofs.list_primes.Goals.{After-walk-tally, Else-fault-ne0}
 
 pub returns-then-fault-ne0 : goal.returns-then-fault-ne0
 unfolding listing_fault
@@ -56,19 +56,26 @@ walk-tally-requires c =
     }
 
 -- The walk has ended.
-finished : (c : After-struct_known-1)
-    → let a = c.args in
-    Finished a.n a.on.now a.free.now a.place a.allowance a.room.now (state c.walk-tally.result c.walk-tally.new.room)
-finished c =
+finished : (c : After-walk-tally) → let a = c.args in
+    listing_fault (call_of a.n a.on.now a.free.now a.place a.allowance a.room.now) ≡ 0
+    → Finished a.n a.on.now a.free.now a.place a.allowance a.room.now (state c.walk-tally.result c.walk-tally.new.room)
+finished c e =
     let a = c.args in
-    finish a.n a.on.now a.free.now a.place a.allowance a.room.now (sound (goal.at.finished c).Else-fault-ne0) c.start_at-start.result c.start_at-start.ensures
+    finish a.n a.on.now a.free.now a.place a.allowance a.room.now e c.start_at-start.result c.start_at-start.ensures
     c.point_at-first.result c.point_at-first.ensures c.mask_of-on_mask.result c.mask_of-free_mask.result c.mask_of-on_mask.ensures c.mask_of-free_mask.ensures _ c.walk-tally.ensures
 
 pub overflow_sub-passed : goal.overflow_sub-passed
-overflow_sub-passed c = (finished c).left
+overflow_sub-passed c =
+    let p = goal.at.overflow_sub-passed c in
+    (finished p.After-walk-tally (sound p.Else-fault-ne0)).left
 
 pub overflow_add-next : goal.overflow_add-next
-overflow_add-next c = omega (arith, (finished c).fits)
+overflow_add-next c =
+    let p = goal.at.overflow_add-next c in
+    omega (arith, (finished p.After-walk-tally (sound p.Else-fault-ne0)).fits)
 
 pub returns : goal.returns
-returns c = record { result_value = (finished c).numbers; room_after = (finished c).room }
+returns c =
+    let p = goal.at.returns c in
+    let f = finished p.After-walk-tally (sound p.Else-fault-ne0) in
+    record { result_value = f.numbers; room_after = f.room }
