@@ -23,6 +23,7 @@ first-none (a ∷ l) x h = rw (h a (inl refl)) (first-none l x (λ c k. h c (inr
 pub first-least : (R : Candidate → Candidate → Type 0) (l : List Candidate) → Ordered R l → (x : ℕ) (c : Candidate) → Mem c l → points_of c x ≡ true
     → ((b : Candidate) → Mem b l → points_of b x ≡ true → R b c → ⊥) → first_holding l x ≡ c ∷ []
 unfolding first_holding
+first-least R [] o x c i t h = elim i [ ]
 first-least R (a ∷ l) o x c (inl q) t h = rw (sym (ap (λ z. points_of z x) q) ∙ t) (ap (λ z. z ∷ []) (sym q))
 first-least R (a ∷ l) o x c (inr k) t h =
     rw (refuted (points_of a x) (λ u. h a (inl refl) u (o.0 c k))) (first-least R l o.1 x c k t (λ b i. h b (inr i)))

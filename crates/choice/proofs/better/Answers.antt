@@ -1,10 +1,8 @@
 -- `choice::better` meets its contract: one law for each way that the tests can go. Assumes nothing.
-use mathlib.Core.Path.{◌≡◌, sym, ◌∙◌, subst}
-use mathlib.Core.Bool.{true}
+use mathlib.Core.Path.{sym, ◌∙◌, subst}
 use Prim.Native.Nat.{ℕ}
 use Rattle.gf2.proofs.Xor.{bit-zero}
 use Rattle.gf2.proofs.Logic.{clash}
-use Rattle.bases.specs.Bases.{fits_entry}
 use Rattle.masks.specs.Points.{prime_by}
 use Rattle.bases.specs.Entry.{EntryAt}
 use Rattle.choice.proofs.Reductions.{six, entry-positive, holding-entry}
@@ -26,13 +24,12 @@ returns-then-stays c =
 
 pub is_prime-requires : goal.is_prime-requires
 is_prime-requires c =
-    let a = c.args in (
-      c.requires.search.inside,
-      (
-        λ x t. clash t (bit-zero x),
-        subst (λ (z : ℕ). EntryAt a.m a.d z a.entry) (sym c.least_point-point.ensures) (holding-entry c.requires.search a.entry c.requires.mem (sym c.fits.ensures ∙ c.if-not-fits.false)),
-      ),
-    )
+    let a = c.args in
+    record {
+      of_points = c.requires.search.inside;
+      of_points_2 = λ x t. clash t (bit-zero x);
+      entry_at = subst (λ (z : ℕ). EntryAt a.m a.d z a.entry) (sym c.least_point-point.ensures) (holding-entry c.requires.search a.entry c.requires.mem (sym c.fits.ensures ∙ c.if-not-fits.false));
+    }
 
 pub returns-then-not-is_prime : goal.returns-then-not-is_prime
 returns-then-not-is_prime c =

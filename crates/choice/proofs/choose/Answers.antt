@@ -2,10 +2,11 @@
 use mathlib.Core.Path.{◌≡◌, sym, ap, ◌∙◌, subst}
 use mathlib.Core.Bool.{Bool, true, false}
 use mathlib.Core.List.{List}
-use Prim.Native.Nat.{ℕ, ◌+◌, ◌-◌, ◌≤◌, ◌<◌}
+use Prim.Native.Nat.{ℕ, ◌+◌, ◌≤◌, ◌<◌}
 use native.Mathlib.Omega.{arith}
 use lib.Pow.{pow_mono}
 use lib.ListN.{length, get_or}
+use borrow.Author.Tests.{not-true, not-false}
 use Rattle.table.specs.Table.{outside}
 use Rattle.table.specs.Flags.{max_points}
 use Rattle.table.proofs.Table.{inside-at, outside-more}
@@ -16,7 +17,7 @@ use Rattle.masks.specs.Points.{MaskOf, prime_by}
 use Rattle.cover.specs.Choice.{primes_of, covered, first_holding}
 use Rattle.choice.specs.declared.Choice.{Choice}
 use Rattle.choice.specs.Search.{found_of}
-use Rattle.choice.specs.Chosen.{max_chosen, chosen_by}
+use Rattle.choice.specs.Chosen.{chosen_by}
 use Rattle.choice.proofs.Taking.{primes-by, search-at, TakenTo, taken_start, taken-covered, taken-nothing, taken-one, few-points, taken-end}
 use Rattle.choice.proofs.choose.Goals as goal
 
@@ -65,14 +66,14 @@ loop-i-preserved-then-not-found c =
     taken-nothing a.m a.on.now l.i l.flags l.choice l.invariant h
     (flag_is l.invariant c.requires.m_le_max_listed c.requires.on_value h c.flag_place.result c.flag_place.ensures false c.if-flags-flag_place.false) f.result
     (first a.m a.on.now c.mask_of-mask.result (get_or a.on.now l.i 0) (found_of f.result) c.mask_of-mask.ensures f.ensures.result_value)
-    c.if-not-found.true
+    (not-true f.result.any c.if-not-found.true)
 
 pub add-choice-requires : goal.add-choice-requires
 add-choice-requires c =
     omega (arith, c.loop-i.invariant.count, c.loop-i-test.true, few-points c.args.m c.args.on.now c.requires.m_le_max_listed c.requires.on_value c.requires.on_value_2)
 
 pub mark_prime-flags-requires : goal.mark_prime-flags-requires
-mark_prime-flags-requires c = c.first_holding-found.ensures.found_at c.if-not-found.false
+mark_prime-flags-requires c = let f = c.first_holding-found in f.ensures.found_at (not-false f.result.any c.if-not-found.false)
 
 pub loop-i-preserved : goal.loop-i-preserved
 loop-i-preserved c =
@@ -84,7 +85,7 @@ loop-i-preserved c =
     (taken-one a.m a.on.now l.i l.flags l.choice l.invariant h
     (flag_is l.invariant c.requires.m_le_max_listed c.requires.on_value h c.flag_place.result c.flag_place.ensures false c.if-flags-flag_place.false) f.result
     (first a.m a.on.now c.mask_of-mask.result (get_or a.on.now l.i 0) (found_of f.result) c.mask_of-mask.ensures f.ensures.result_value)
-    c.if-not-found.false (f.ensures.found_at c.if-not-found.false)
+    (not-false f.result.any c.if-not-found.false) (f.ensures.found_at (not-false f.result.any c.if-not-found.false))
     (omega (arith, l.invariant.count, h, few-points a.m a.on.now c.requires.m_le_max_listed c.requires.on_value c.requires.on_value_2)) c.mark_prime-flags.result c.mark_prime-flags.ensures)
 
 pub returns : goal.returns

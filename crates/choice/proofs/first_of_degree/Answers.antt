@@ -1,11 +1,10 @@
 -- `choice::first_of_degree` meets its contract: the best of the entries passed so far is what `Best` says. Assumes nothing.
 use mathlib.Core.Path.{◌≡◌, refl, sym, ap, subst}
 use mathlib.Core.Bool.{false}
-use Prim.Native.Nat.{ℕ, ◌-◌, ◌<◌}
+use Prim.Native.Nat.{ℕ, ◌≤◌, ◌<◌}
 use native.Mathlib.Omega.{arith}
 use lib.ListN.{get_or}
 use Rattle.gf2.specs.Finite.{Mem}
-use Rattle.bases.specs.Entries.{entries}
 use Rattle.bases.specs.Bases.{entry_count, stop, entries_of}
 use Rattle.masks.specs.Points.{prime_by}
 use Rattle.bases.proofs.Bounds.{bounds, entry-mem}
@@ -22,7 +21,7 @@ stop_of-end-requires c = six c.requires.search
 pub loop-i-init : goal.loop-i-init
 loop-i-init c =
     let a = c.args in
-    subst (λ (z : ℕ). Best (prime_by a.m a.on 0) a.m a.d a.x z (record { any = false; degree = 0; point = 0; entry = 0 })) (sym c.start_of_lem.ensures)
+    subst (λ (z : ℕ). Best (prime_by a.m a.on 0) a.m a.d a.x z (record { any = false; degree = 0; point = 0; entry = 0 })) (sym c.start_of-i.ensures)
     (best-start (prime_by a.m a.on 0) a.m a.d a.x (six c.requires.search) (record { any = false; degree = 0; point = 0; entry = 0 }) refl)
 
 -- The place is before the end of the entries.

@@ -1,6 +1,5 @@
 -- `choice::least_point` meets its contract: at each turn the vectors not passed yet are what is left to be cleared. Assumes nothing.
 use mathlib.Core.Path.{◌≡◌}
-use Prim.Native.Nat.{◌-◌}
 use Rattle.gf2.specs.Basis.{reduce}
 use Rattle.bases.specs.Bases.{vectors_of}
 use Rattle.choice.specs.Search.{Positive}

@@ -1,8 +1,7 @@
 -- `choice::mark_prime` meets its contract: the points passed so far are marked where the candidate holds them. Assumes nothing.
 use mathlib.Core.Path.{◌≡◌, sym, ap, ◌∙◌, subst}
 use mathlib.Core.Bool.{true}
-use mathlib.Core.Logic.{inl, inr}
-use Prim.Native.Nat.{ℕ, ◌+◌, ◌-◌, ◌^◌, ◌≤◌, ◌<◌}
+use Prim.Native.Nat.{ℕ, ◌+◌, ◌^◌, ◌≤◌, ◌<◌}
 use native.Mathlib.Omega.{arith}
 use lib.Pow.{pow_mono}
 use lib.ListN.{length, set}
@@ -12,6 +11,7 @@ use Rattle.bases.specs.Entry.{candidate_at}
 use Rattle.choice.proofs.Reductions.{entry-positive}
 use Rattle.choice.proofs.Taking.{MarkedTo, marked_start, marked-on, marked-off, marked-end}
 use Rattle.choice.proofs.mark_prime.Goals as goal
+use Rattle.choice.proofs.mark_prime.Goals.{then-holds_point, else-holds_point}
 
 pub point_count-size-requires : goal.point_count-size-requires
 point_count-size-requires c = omega (arith, c.requires.few)
@@ -19,8 +19,8 @@ point_count-size-requires c = omega (arith, c.requires.few)
 pub loop-x-init : goal.loop-x-init
 loop-x-init c =
     let a = c.args in
-    let long : length a.t5 ≡ max_points = search rules in
-    (omega arith, marked_start (candidate_at a.d a.point a.entry) a.t5 long)
+    let long : length a.flags ≡ max_points = search rules in
+    (omega arith, marked_start (candidate_at a.d a.point a.entry) a.flags long)
 
 pub holds_point-requires : goal.holds_point-requires
 holds_point-requires c = let k = c.requires in entry-positive c.args.d c.args.entry (omega (arith, k.few, k.short)) k.listed
@@ -40,10 +40,10 @@ loop-x-preserved c =
     let f = c.args.flags in (
       omega (arith, c.loop-x-test.true),
       elim c.if-holds_point.branch [
-        | inl w ↦ subst (MarkedTo k f (l.x + 1)) (sym (w.2 ∙ ap (λ (z : ℕ). set l.flags z true) w.1.ensures))
-            (marked-on k f l.flags l.x l.invariant.1 (sym c.holds_point.ensures ∙ w.0.true)
+        | then-holds_point w ↦ subst (MarkedTo k f (l.x + 1)) (sym (w.flags-is ∙ ap (λ (z : ℕ). set l.flags z true) w.flag_place.ensures))
+            (marked-on k f l.flags l.x l.invariant.1 (sym c.holds_point.ensures ∙ w.if-holds_point.true)
             (small c.args.m l.x c.requires.few (omega (arith, c.loop-x-test.true, c.point_count-size.ensures))))
-        | inr w ↦ subst (MarkedTo k f (l.x + 1)) (sym w.1) (marked-off k f l.flags l.x l.invariant.1 (sym c.holds_point.ensures ∙ w.0.left))
+        | else-holds_point w ↦ subst (MarkedTo k f (l.x + 1)) (sym w.flags-is) (marked-off k f l.flags l.x l.invariant.1 (sym c.holds_point.ensures ∙ w.if-holds_point.false))
       ],
     )
 
