@@ -11,8 +11,8 @@ ghost use Rattle.masks.specs.Points.{OfPoints, prime_by, count_by};
 // The number of on points in the candidate of an entry if it is a prime, and 0 if it is none. Its coset has to lie inside on plus free, as the only one
 // of its space that does; then the points whose coset lies inside are its own, and those of them that are on are counted.
 pub fn count_in_prime(on: u64, free: u64, n: usize, d: usize, p: u64, entry: u64) -> u32
-    requires of_points { OfPoints n on }
-    requires of_points_2 { OfPoints n free }
+    requires on_points { OfPoints n on }
+    requires free_points { OfPoints n free }
     requires entry_at { EntryAt n d p entry }
     ensures { result ≡ count_by n on free (candidate_at d p entry) }
 {
@@ -28,8 +28,8 @@ pub fn count_in_prime(on: u64, free: u64, n: usize, d: usize, p: u64, entry: u64
 
 // Whether the candidate of an entry is a prime: then it holds an on point.
 pub fn is_prime(on: u64, free: u64, n: usize, d: usize, p: u64, entry: u64) -> bool
-    requires of_points { OfPoints n on }
-    requires of_points_2 { OfPoints n free }
+    requires on_points { OfPoints n on }
+    requires free_points { OfPoints n free }
     requires entry_at { EntryAt n d p entry }
     ensures { result ≡ prime_by n on free (candidate_at d p entry) }
 {

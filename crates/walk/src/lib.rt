@@ -136,8 +136,8 @@ fn pass(
     tally: Tally,
     room: &mut [u8],
 ) -> Tally
-    requires of_points { OfPoints n on }
-    requires of_points_2 { OfPoints n free }
+    requires on_points { OfPoints n on }
+    requires free_points { OfPoints n free }
     requires entry_at { EntryAt n d p entry }
     requires written_in_bounds { record_length * tally.written ≤ length room.old }
     ensures { state result room.new ≡ pass_masked n on free (candidate_at d p entry) (state tally room.old) }
@@ -170,8 +170,8 @@ pub fn walk(
     allowance: u64,
     room: &mut [u8],
 ) -> Tally
-    requires of_points { OfPoints n on }
-    requires of_points_2 { OfPoints n free }
+    requires on_points { OfPoints n on }
+    requires free_points { OfPoints n free }
     requires n_le_max_listed { n ≤ max_listed }
     requires degree_le_n { degree ≤ n }
     requires point_bound { point < 2 ^ n }

@@ -48,8 +48,8 @@ walk-tally-requires c =
     let e = sound (goal.at.walk-tally-requires c).Else-fault-ne0 in
     let few = sound-few a.n a.on.now a.free.now a.place a.allowance a.room.now e in
     record {
-      of_points = on-points a.n a.on.now a.free.now a.place a.allowance a.room.now e c.mask_of-on_mask.result c.mask_of-on_mask.ensures;
-      of_points_2 = free-points a.n a.on.now a.free.now a.place a.allowance a.room.now e c.mask_of-free_mask.result c.mask_of-free_mask.ensures;
+      on_points = on-points a.n a.on.now a.free.now a.place a.allowance a.room.now e c.mask_of-on_mask.result c.mask_of-on_mask.ensures;
+      free_points = free-points a.n a.on.now a.free.now a.place a.allowance a.room.now e c.mask_of-free_mask.result c.mask_of-free_mask.ensures;
       n_le_max_listed = few;
       degree_le_n = c.start_at-start.ensures.short;
       point_bound = c.point_at-first.ensures.below;

@@ -14,7 +14,7 @@ overflow_shr-inside c = let k = c.requires.entry_at in omega (arith, k.point, po
 
 pub returns-then-inside-p-eq0 : goal.returns-then-inside-p-eq0
 returns-then-inside-p-eq0 c =
-    count-out c.requires.entry_at c.args.on c.args.free c.every_point-inside.result c.requires.of_points c.requires.of_points_2 (omega arith) c.every_point-inside.ensures c.if-inside-p-eq0.true
+    count-out c.requires.entry_at c.args.on c.args.free c.every_point-inside.result c.requires.on_points c.requires.free_points (omega arith) c.every_point-inside.ensures c.if-inside-p-eq0.true
 
 pub overflow_shl-d : goal.overflow_shl-d
 overflow_shl-d c = let k = c.requires.entry_at in omega (arith, k.few, k.short)
@@ -23,11 +23,11 @@ pub returns-then-inside-d : goal.returns-then-inside-d
 returns-then-inside-d c =
     let k = c.requires.entry_at in
     let i = c.every_point-inside in
-    count-more k c.args.on c.args.free i.result c.requires.of_points c.requires.of_points_2 (omega arith) i.ensures (λ e. c.if-inside-d.true (e ∙ sym (shifted_one c.args.d 32 (omega (arith, k.few, k.short)))))
+    count-more k c.args.on c.args.free i.result c.requires.on_points c.requires.free_points (omega arith) i.ensures (λ e. c.if-inside-d.true (e ∙ sym (shifted_one c.args.d 32 (omega (arith, k.few, k.short)))))
 
 pub returns : goal.returns
 returns c =
     let k = c.requires.entry_at in
     let i = c.every_point-inside in
-    count-inside k c.args.on c.args.free i.result c.requires.of_points c.requires.of_points_2 (omega arith) i.ensures c.if-inside-p-eq0.false
+    count-inside k c.args.on c.args.free i.result c.requires.on_points c.requires.free_points (omega arith) i.ensures c.if-inside-p-eq0.false
     (c.if-inside-d.false ∙ shifted_one c.args.d 32 (omega (arith, k.few, k.short)))

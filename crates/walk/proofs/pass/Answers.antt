@@ -24,7 +24,7 @@ returns-then-tally-eq0 c =
     ∙ pass_spent (prime_by a.n a.on a.free) (record_by a.n a.on) (candidate_at a.d a.p a.entry) a.tally a.room.now c.if-tally-eq0.true
 
 pub count_in_prime-count-requires : goal.count_in_prime-count-requires
-count_in_prime-count-requires c = record { of_points = c.requires.of_points; of_points_2 = c.requires.of_points_2; entry_at = c.requires.entry_at }
+count_in_prime-count-requires c = record { on_points = c.requires.on_points; free_points = c.requires.free_points; entry_at = c.requires.entry_at }
 
 pub returns-then-count-eq0 : goal.returns-then-count-eq0
 returns-then-count-eq0 c =

@@ -53,33 +53,38 @@ bounds-table-at c = omega (arith, c.if-at-stop_of.true, c.stop_of.ensures, last 
 
 pub pass-tally-requires : goal.pass-tally-requires
 pass-tally-requires c =
+    let p = goal.at.pass-tally-requires c in
     let t = c.loop-entry.invariant in
-    let v = (goal.at.pass-tally-requires c).Then-at-stop_of in
+    let v = p.Then-at-stop_of in
     record {
-      of_points = c.requires.of_points;
-      of_points_2 = c.requires.of_points_2;
-      entry_at = entry-stands t (found (goal.at.pass-tally-requires c).After-stop_of) (within v) (own v);
+      on_points = c.requires.on_points;
+      free_points = c.requires.free_points;
+      entry_at = entry-stands t (found p.After-stop_of) (within v) (own v);
       written_in_bounds = omega (arith, t.kept.keeps, t.kept.wrote);
     }
 
 pub shape_of-room-then-tally : goal.shape_of-room-then-tally
 shape_of-room-then-tally c =
-    (passed-kept c.loop-entry.invariant (found (goal.at.shape_of-room-then-tally c).After-stop_of) (within (goal.at.shape_of-room-then-tally c).Then-at-stop_of) (own (goal.at.shape_of-room-then-tally c).Then-at-stop_of) c.pass-tally.ensures).keeps
+    let p = goal.at.shape_of-room-then-tally c in
+    (passed-kept c.loop-entry.invariant (found p.After-stop_of) (within p.Then-at-stop_of) (own p.Then-at-stop_of) c.pass-tally.ensures).keeps
 
 pub returns-then-tally : goal.returns-then-tally
 returns-then-tally c =
-    at-stop c.loop-entry.invariant (found (goal.at.returns-then-tally c).After-stop_of) (within (goal.at.returns-then-tally c).Then-at-stop_of) (own (goal.at.returns-then-tally c).Then-at-stop_of) c.pass-tally.ensures c.if-tally.true
+    let p = goal.at.returns-then-tally c in
+    at-stop c.loop-entry.invariant (found p.After-stop_of) (within p.Then-at-stop_of) (own p.Then-at-stop_of) c.pass-tally.ensures c.if-tally.true
 
 pub overflow_add-i : goal.overflow_add-i
 overflow_add-i c = omega (arith, within (goal.at.overflow_add-i c).Then-at-stop_of, last c.loop-entry.invariant)
 
 pub loop-entry-smaller-then-at-stop_of : goal.loop-entry-smaller-then-at-stop_of
 loop-entry-smaller-then-at-stop_of c =
-    omega (arith, within (goal.at.loop-entry-smaller-then-at-stop_of c).Then-at-stop_of, last c.loop-entry.invariant, (found (goal.at.loop-entry-smaller-then-at-stop_of c).After-stop_of).low)
+    let p = goal.at.loop-entry-smaller-then-at-stop_of c in
+    omega (arith, within p.Then-at-stop_of, last c.loop-entry.invariant, (found p.After-stop_of).low)
 
 pub loop-entry-preserved-then-at-stop_of : goal.loop-entry-preserved-then-at-stop_of
 loop-entry-preserved-then-at-stop_of c =
-    to-entry c.loop-entry.invariant (found (goal.at.loop-entry-preserved-then-at-stop_of c).After-stop_of) (within (goal.at.loop-entry-preserved-then-at-stop_of c).Then-at-stop_of) (own (goal.at.loop-entry-preserved-then-at-stop_of c).Then-at-stop_of) c.pass-tally.ensures c.if-tally.false
+    let p = goal.at.loop-entry-preserved-then-at-stop_of c in
+    to-entry c.loop-entry.invariant (found p.After-stop_of) (within p.Then-at-stop_of) (own p.Then-at-stop_of) c.pass-tally.ensures c.if-tally.false
 
 pub overflow_add-p : goal.overflow_add-p
 overflow_add-p c = omega (arith, small c.loop-entry.invariant)
@@ -97,16 +102,18 @@ loop-entry-smaller-then-p-n c =
 
 pub loop-entry-preserved-then-p-n : goal.loop-entry-preserved-then-p-n
 loop-entry-preserved-then-p-n c =
+    let p = goal.at.loop-entry-preserved-then-p-n c in
     let t = c.loop-entry.invariant in
-    to-point t (found (goal.at.loop-entry-preserved-then-p-n c).After-stop_of) (beyond (goal.at.loop-entry-preserved-then-p-n c).Else-at-stop_of) (omega (arith, c.if-p-n.true, shifted_one c.args.n 64 (omega (arith, t.few)))) c.start_of-i-then-p-n.result c.start_of-i-then-p-n.ensures
+    to-point t (found p.After-stop_of) (beyond p.Else-at-stop_of) (omega (arith, c.if-p-n.true, shifted_one c.args.n 64 (omega (arith, t.few)))) c.start_of-i-then-p-n.result c.start_of-i-then-p-n.ensures
 
 pub shape_of-room-then-d-eq0 : goal.shape_of-room-then-d-eq0
 shape_of-room-then-d-eq0 c = c.loop-entry.invariant.kept.keeps
 
 pub returns-then-d-eq0 : goal.returns-then-d-eq0
 returns-then-d-eq0 c =
+    let p = goal.at.returns-then-d-eq0 c in
     let t = c.loop-entry.invariant in
-    at-end t (found (goal.at.returns-then-d-eq0 c).After-stop_of) (beyond (goal.at.returns-then-d-eq0 c).Else-at-stop_of) (omega (arith, c.if-p-n.false, shifted_one c.args.n 64 (omega (arith, t.few)))) c.if-d-eq0.true
+    at-end t (found p.After-stop_of) (beyond p.Else-at-stop_of) (omega (arith, c.if-p-n.false, shifted_one c.args.n 64 (omega (arith, t.few)))) c.if-d-eq0.true
 
 pub overflow_sub-d : goal.overflow_sub-d
 overflow_sub-d c = pos_of_ne-zero c.if-d-eq0.false
@@ -121,6 +128,7 @@ loop-entry-smaller c =
 
 pub loop-entry-preserved : goal.loop-entry-preserved
 loop-entry-preserved c =
+    let p = goal.at.loop-entry-preserved c in
     let t = c.loop-entry.invariant in
-    to-degree t (found (goal.at.loop-entry-preserved c).After-stop_of) (beyond (goal.at.loop-entry-preserved c).Else-at-stop_of) (omega (arith, c.if-p-n.false, shifted_one c.args.n 64 (omega (arith, t.few))))
+    to-degree t (found p.After-stop_of) (beyond p.Else-at-stop_of) (omega (arith, c.if-p-n.false, shifted_one c.args.n 64 (omega (arith, t.few))))
     (pos_of_ne-zero c.if-d-eq0.false) c.start_of-i-in-loop-entry.result c.start_of-i-in-loop-entry.ensures
