@@ -1,6 +1,6 @@
 -- `factors::factors_at` meets its contract: the constants and the masks written are those of the masks passed. Assumes nothing.
 use mathlib.Core.Path.{refl, ap₂}
-use Prim.Native.Nat.{ℕ, ◌-◌}
+use Prim.Native.Nat.{ℕ}
 use native.Mathlib.Omega.{arith}
 use borrow.Author.Rules.{rules}
 use Rattle.basis.specs.declared.ShortList.{ShortList}

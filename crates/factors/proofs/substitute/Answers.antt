@@ -1,6 +1,5 @@
 -- `factors::substitute` meets its contract: what is found, then what the equations behind give, is the whole. Assumes nothing.
 use mathlib.Core.Path.{refl, sym, ◌∙◌}
-use Prim.Native.Nat.{◌-◌}
 use native.Mathlib.Omega.{arith}
 use borrow.Author.Rules.{rules}
 use Rattle.factors.proofs.Steps.{short-few, substituted-next, substituted-all}
