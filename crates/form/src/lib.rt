@@ -85,6 +85,7 @@ pub fn mask_at(bytes: &[u8], place: usize) -> u16
 }
 
 // A factor of n variables: the constant is 0 or 1, the mask 1 to 2^n - 1.
+#[tactic(auto, unfolding(product::specs::Product::fits))]
 fn fits(n: usize, constant: u8, mask: u16) -> bool
     requires { n ≤ max_variables }
     ensures { result ≡ fits n (factor constant mask) }

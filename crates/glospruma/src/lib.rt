@@ -1,5 +1,5 @@
 // The public calls, exported to C and Rust, and nothing else: each hands its arguments to the crate that does the work. The three that keep an index are calls in
-// a row without a branch, since a slice of structs has to be walked by hand: crate `index` decides, and `index_list` goes over the list. A call takes numbers and lent
+// a row without a branch: crate `index` decides, and `index_list` goes over the list. A call takes numbers and lent
 // slices, asks nothing of its caller, and says in its contract what it returns and what every lent slice holds afterwards, on all inputs. A refused
 // call returns the number of document 01, "Refusal numbers", or of document 02, with all other numbers 0 and all lent memory as before. Read next: crate `claims`.
 #![tactic(auto)]
