@@ -53,6 +53,7 @@ fn miscounted(head: Head) -> bool
 }
 
 // The refusal at the end of a text, or 0.
+#[tactic(auto, unfolding(table::specs::Refusal::first_fault))]
 fn text_fault(output: usize, head: Head) -> u8
     ensures { result ≡ first_fault (end_tests output head) }
 {
@@ -82,6 +83,7 @@ fn is_free(kind: u8, zero: bool, dash: bool) -> bool
 }
 
 // How many marks a point has.
+#[tactic(auto, unfolding(crate::specs::Table::mark_of))]
 fn mark_count(on: bool, free: bool) -> usize
     ensures by_index { (p : ℕ) → result ≡ length (mark_of on free p) }
     ensures upper_bound { result ≤ 1 }

@@ -1,6 +1,6 @@
 -- `pla::count_marks` meets its contract. The loop's invariant: the marks of the points passed are counted. Assumes nothing.
 use mathlib.Core.Path.{◌≡◌, sym, ap}
-use Prim.Native.Nat.{◌-◌, ◌^◌}
+use Prim.Native.Nat.{◌^◌}
 use native.Mathlib.Omega.{arith}
 use lib.ListN.{length}
 use Rattle.pla.specs.Table.{flag_on, flag_free}
@@ -12,15 +12,15 @@ pub loop-p-init : goal.loop-p-init
 loop-p-init c =
     let point-count = c.point_count-size in
     let args = c.args in
-    (omega arith, point-count.ensures, rw point-count.ensures (pow_mono c.requires), omega arith, sym (ap length (marks-start (flag_on args.t3) (flag_free args.kind args.t3))))
+    (omega arith, point-count.ensures, rw point-count.ensures (pow_mono c.requires), omega arith, sym (ap length (marks-start (flag_on args.flags) (flag_free args.kind args.flags))))
 
 pub loop-p-preserved : goal.loop-p-preserved
 loop-p-preserved c =
     let l = c.loop-p in
     let mark-count = c.mark_count-count in
     let args = c.args in
-    let one = rw c.is_free.ensures at (mark-count.ensures.0 l.p) in
-    (omega arith, l.invariant.1, l.invariant.2, omega (arith, l.invariant.3, mark-count.ensures.1), omega (arith, l.invariant.4, one, count_next (flag_on args.t3) (flag_free args.kind args.t3) l.p))
+    let one = rw c.is_free.ensures at (mark-count.ensures.by_index l.p) in
+    (omega arith, l.invariant.1, l.invariant.2, omega (arith, l.invariant.3, mark-count.ensures.upper_bound), omega (arith, l.invariant.4, one, count_next (flag_on args.flags) (flag_free args.kind args.flags) l.p))
 
 pub returns : goal.returns
 returns c =
