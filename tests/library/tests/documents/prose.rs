@@ -10,8 +10,8 @@ use crate::tables::quoted;
 use std::collections::BTreeSet;
 
 /// Words of that form that no crate and not the header defines: packages of Debian,
-/// variables of the environment, and names of the Rust package.
-const WORDS: [&str; 8] = [
+/// variables of the environment, names of the Rust package, and the toolchain.
+const WORDS: [&str; 9] = [
     "berkeley-abc",
     "cargo-web",
     "GLOSPRUMA_CASES",
@@ -19,6 +19,7 @@ const WORDS: [&str; 8] = [
     "GLOSPRUMA_SEED",
     "GLOSPRUMA_SHARE",
     "index_lookup",
+    "rattle-kit-13f",
     "VERSION",
 ];
 
