@@ -1,11 +1,11 @@
 -- The message is the refusal alone, or with its line after it, and there is room for it.
-use Rattle.std.proofs.Common.{◌≡◌, ◌≢◌, List, ◌++◌, ℕ, ◌^◌, ◌<◌, length, sym}
+use Rattle.std.proofs.Common.{◌≢◌, List, ◌++◌, ℕ, sym}
 use Rattle.text.specs.Pieces.{labelled}
 use Rattle.text.specs.Writing.{HasRoom}
 use Rattle.text.proofs.Writing.{room-same, room-first, room-then, wrote-same, wrote-both}
 use Rattle.lines.specs.Words.{refused_word}
 use Rattle.lines.specs.Lines.{number_line}
-use Rattle.pla_to_table.specs.Messages.{message_room, line_word, refused_message}
+use Rattle.pla_to_table.specs.Messages.{line_word, refused_message}
 use Rattle.pla_to_table.proofs.Messages.{message-alone, message-line, message-room, message-inside}
 use Rattle.pla_to_table.proofs.write_refused.Goals as goal
 
