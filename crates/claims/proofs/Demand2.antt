@@ -38,7 +38,7 @@ use Rattle.cover.specs.WrittenForm.{form_size_fault}
 use Rattle.cover.proofs.WrittenForm.{table-form-at}
 use Rattle.writing.specs.declared.FormWritten.{FormWritten}
 use Rattle.writing.specs.Writing.{form_bytes, write_accepted, write_refused, write_answer}
-use Rattle.writing.proofs.Answers.{none_first, size-first, write-ways}
+use Rattle.writing.proofs.Ways.{none_first, size-first, write-ways}
 use Rattle.analysis.specs.declared.LinearSpace.{LinearSpace}
 use Rattle.analysis.specs.declared.Completion.{Completion}
 use Rattle.analysis.specs.declared.Analysis.{Analysis}

@@ -1,4 +1,4 @@
 -- The laws behind the functions of this crate. Read in this order.
 pub mod Bytes
 pub mod Lengths
-pub mod Answers
+pub mod Ways

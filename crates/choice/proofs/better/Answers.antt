@@ -26,8 +26,8 @@ pub is_prime-requires : goal.is_prime-requires
 is_prime-requires c =
     let a = c.args in
     record {
-      of_points = c.requires.search.inside;
-      of_points_2 = λ x t. clash t (bit-zero x);
+      on_points = c.requires.search.inside;
+      free_points = λ x t. clash t (bit-zero x);
       entry_at = subst (λ (z : ℕ). EntryAt a.m a.d z a.entry) (sym c.least_point-point.ensures) (holding-entry c.requires.search a.entry c.requires.mem (sym c.fits.ensures ∙ c.if-not-fits.false));
     }
 

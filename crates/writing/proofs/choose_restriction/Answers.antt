@@ -19,7 +19,6 @@ use Rattle.projection.proofs.Restrictions.{spans-few, points_kept, points-few, p
 use Rattle.cubes.specs.Records.{max_listed}
 use Rattle.choice.specs.Chosen.{max_chosen, Chose}
 use Rattle.writing.proofs.choose_restriction.Goals as goal
-use Rattle.writing.proofs.choose_restriction.Goals.{After-write_kept}
 
 -- The points kept are those of the restriction, and fit the array; the part of it that is lent on is these.
 module _ (n : ℕ) (b : Basis) (k : BasisWithin n b) (few : n - b.len ≤ max_listed) (f : ℕ → Bool) (leads : ℕ) (e : leads ≡ lead_mask (vectors_of b)) where
@@ -40,39 +39,25 @@ write_kept-requires c =
 pub overflow_sub-n : goal.overflow_sub-n
 overflow_sub-n c = spans-few c.requires.basis_within
 
--- The points are written at the front of the array: those of the restriction.
-module _ (c : After-write_kept) where
-  abbrev start : Start
-  start = c{-Start-}
-
-  abbrev mask : After-leads-leads
-  mask = c{-After-leads-leads-}
-
-  abbrev count : ℕ
-  count = c.count_kept-count.result
-
-  abbrev points : List ℕ
-  points = c.write-Kept.new.1.1.1.0
-
-  restricted : take (count - 0) points ≡ restriction start.args.n (vectors_of start.args.basis) (flagged start.args.flags.now)
-  restricted =
-      part start.args.n start.args.basis start.pre.0 start.pre.1 (flagged start.args.flags.now) mask.leads-leads.result mask.leads-leads.ensures
-      count c.count_kept-count.ensures (replicate max_chosen 0) points c.write-Kept.ensures
-
 pub slice_bounds-choose-end : goal.slice_bounds-choose-end
 slice_bounds-choose-end c =
-    let a = (start (goal.at.slice_bounds-choose-end c).After-points-1).args in
-    front_fits (kept a.n (mask (goal.at.slice_bounds-choose-end c).After-points-1).leads-leads.result (flagged a.flags.now)) (replicate max_chosen 0) (points (goal.at.slice_bounds-choose-end c).After-points-1) (count (goal.at.slice_bounds-choose-end c).After-points-1) c.write-Kept.ensures c.count_kept-count.ensures
+    front_fits (kept c.args.n c.leads-leads.result (flagged c.args.flags.now)) (replicate max_chosen 0) c.write_kept.new.points c.count_kept-count.result c.write_kept.ensures c.count_kept-count.ensures
 
 pub choose-requires : goal.choose-requires
 choose-requires c =
-    let s = start (goal.at.choose-requires c).After-points-1 in
-    let f = flagged s.args.flags.now in (
-      s.pre.1,
-      (ap (outside (s.args.n - s.args.basis.len)) (restricted (goal.at.choose-requires c).After-points-1) ∙ points-inside s.pre.0 f, ap unordered (restricted (goal.at.choose-requires c).After-points-1) ∙ points-rise s.pre.0 f),
-    )
+    let a = c.args in
+    let k = c.requires.basis_within in
+    let f = flagged a.flags.now in
+    let e = part a.n a.basis k c.requires.len_bound f c.leads-leads.result c.leads-leads.ensures c.count_kept-count.result c.count_kept-count.ensures (replicate max_chosen 0) c.write_kept.new.points c.write_kept.ensures in
+    record {
+      m_le_max_listed = c.requires.len_bound;
+      on_value = ap (outside (a.n - a.basis.len)) e ∙ points-inside k f;
+      on_value_2 = ap unordered e ∙ points-rise k f;
+    }
 
 pub returns : goal.returns
 returns c =
-    let a = (start (goal.at.returns c).After-points-1).args in
-    subst (λ (l : List ℕ). Chose (a.n - a.basis.len) l c.choose.result) (restricted (goal.at.returns c).After-points-1) c.choose.ensures
+    let a = c.args in
+    subst (λ (l : List ℕ). Chose (a.n - a.basis.len) l c.choose.result)
+    (part a.n a.basis c.requires.basis_within c.requires.len_bound (flagged a.flags.now) c.leads-leads.result c.leads-leads.ensures c.count_kept-count.result c.count_kept-count.ensures (replicate max_chosen 0) c.write_kept.new.points c.write_kept.ensures)
+    c.choose.ensures

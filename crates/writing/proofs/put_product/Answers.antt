@@ -16,7 +16,6 @@ use Rattle.factors.proofs.Products.{constants-len, masks-len, masks-few, factor-
 use Rattle.table.proofs.Fill.{sets-append}
 use Rattle.writing.proofs.Bytes.{factors-next, factors-length}
 use Rattle.writing.proofs.put_product.Goals as goal
-use Rattle.writing.proofs.put_product.Goals.{At-loop-i}
 
 -- The factors as the loop has them, one more of them written, and all.
 module _ (r : FactorList) (k : IsProduct r) where
@@ -53,61 +52,51 @@ pub loop-i-init : goal.loop-i-init
 unfolding encode_factors
 loop-i-init c = (omega arith, omega arith, refl)
 
--- Where the call began, from the loop.
-abbrev start : At-loop-i invariant-loop decreases-loop → Start invariant-loop decreases-loop
-start c = c.before.before.before.before.before.before
-
 -- The room is as long as it was.
-long : (c : At-loop-i) → length c.loop-i.room ≡ length (start c).args.room.now
-long c =
-    let s = start c in
-    let l = c.loop-i in
-    ap length l.invariant.2
-    ∙ length-sets (set s.args.room.now s.args.at product_kind) (s.args.at + 1) (encode_factors (take l.i (pairs s.args.factors s.pre.0)))
-    ∙ length-set s.args.room.now s.args.at product_kind
+long : (factors : FactorList) → IsProduct factors → (room done : List ℕ) (at i : ℕ) → done ≡ sets (set room at product_kind) (at + 1) (encode_factors (take i (zip_with factor (take factors.masks.len factors.constants.values) (take factors.masks.len factors.masks.values)))) → length done ≡ length room
+long factors k room done at i e =
+    ap length e
+    ∙ length-sets (set room at product_kind) (at + 1) (encode_factors (take i (pairs factors k)))
+    ∙ length-set room at product_kind
 
 pub offset_bounds-parities-i : goal.offset_bounds-parities-i
-offset_bounds-parities-i c = let s = start (goal.at.offset_bounds-parities-i c).At-loop-i in omega (arith, masks-few s.args.factors s.pre.0 (search rules))
+offset_bounds-parities-i c = omega (arith, masks-few c.args.factors c.requires.product (search rules))
 
 pub bounds-parities-i : goal.bounds-parities-i
-bounds-parities-i c = let s = start (goal.at.bounds-parities-i c).At-loop-i in omega (arith, masks-few s.args.factors s.pre.0 (search rules))
+bounds-parities-i c = omega (arith, masks-few c.args.factors c.requires.product (search rules))
 
 pub offset_bounds-variables-i : goal.offset_bounds-variables-i
-offset_bounds-variables-i c = let s = start (goal.at.offset_bounds-variables-i c).At-loop-i in omega (arith, masks-few s.args.factors s.pre.0 (search rules))
+offset_bounds-variables-i c = omega (arith, masks-few c.args.factors c.requires.product (search rules))
 
 pub bounds-variables-i : goal.bounds-variables-i
-bounds-variables-i c = let s = start (goal.at.bounds-variables-i c).At-loop-i in omega (arith, masks-few s.args.factors s.pre.0 (search rules))
+bounds-variables-i c = omega (arith, masks-few c.args.factors c.requires.product (search rules))
 
 pub put_factor-requires : goal.put_factor-requires
 put_factor-requires c =
-    let s = start (goal.at.put_factor-requires c).At-loop-i in
     record {
-      at_in_bounds = omega (arith, long (goal.at.put_factor-requires c).At-loop-i, masks-len s.args.factors s.pre.0);
-      constant_bound = constant-binary s.args.factors s.pre.0 c.loop-i.i (omega arith);
+      at_in_bounds = omega (arith, long c.args.factors c.requires.product c.args.room.now c.loop-i.room c.args.at c.loop-i.i c.loop-i.invariant.2, masks-len c.args.factors c.requires.product);
+      constant_bound = constant-binary c.args.factors c.requires.product c.loop-i.i (omega arith);
     }
 
 pub overflow_add-place-in-loop-i : goal.overflow_add-place-in-loop-i
 overflow_add-place-in-loop-i c =
-    let s = start (goal.at.overflow_add-place-in-loop-i c).At-loop-i in
-    omega (arith, masks-few s.args.factors s.pre.0 (search rules), s.pre.1, masks-len s.args.factors s.pre.0)
+    omega (arith, masks-few c.args.factors c.requires.product (search rules), c.requires.factors_in_bounds, masks-len c.args.factors c.requires.product)
 
 pub loop-i-preserved : goal.loop-i-preserved
 loop-i-preserved c =
-    let s = start (goal.at.loop-i-preserved c).At-loop-i in
     let l = c.loop-i in
     let p = c.put_factor in (
       omega arith,
       omega arith,
-      next s.args.factors s.pre.0 (set s.args.room.now s.args.at product_kind) l.room p.new.0 s.args.at l.place l.i (omega arith) l.invariant.1 l.invariant.2 p.ensures,
+      next c.args.factors c.requires.product (set c.args.room.now c.args.at product_kind) l.room p.new.room c.args.at l.place l.i (omega arith) l.invariant.1 l.invariant.2 p.ensures,
     )
 
 pub shape_of-room : goal.shape_of-room
-shape_of-room c = long (goal.at.shape_of-room c).At-loop-i
+shape_of-room c = long c.args.factors c.requires.product c.args.room.now c.loop-i.room c.args.at c.loop-i.i c.loop-i.invariant.2
 
 pub returns : goal.returns
 returns c =
-    let s = start (goal.at.returns c).At-loop-i in
     let l = c.loop-i in record {
-      value = omega (arith, masks-len s.args.factors s.pre.0);
-      room_after = whole s.args.factors s.pre.0 s.args.room.now l.room s.args.at l.i (omega arith) l.invariant.2;
+      value = omega (arith, masks-len c.args.factors c.requires.product);
+      room_after = whole c.args.factors c.requires.product c.args.room.now l.room c.args.at l.i (omega arith) l.invariant.2;
     }

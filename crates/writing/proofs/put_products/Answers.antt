@@ -20,7 +20,6 @@ use Rattle.writing.specs.Products.{product_length, products_length, form_length}
 use Rattle.table.proofs.Fill.{sets-append}
 use Rattle.writing.proofs.Lengths.{lengths-grow, bytes_next, product-length-at, products-length}
 use Rattle.writing.proofs.put_products.Goals as goal
-use Rattle.writing.proofs.put_products.Goals.{At-loop-i}
 
 -- The product of the next candidate, as a value.
 module _ (es : List ℕ) (m : ℕ) (r : Choice) (h : IsChoice m r) (i : ℕ) (l : i < r.count) (v : FactorList) (e : v ≡ factors_of (product_at es m r i)) where
@@ -55,50 +54,40 @@ pub loop-i-init : goal.loop-i-init
 unfolding products_length encode_products products_by chosen_by
 loop-i-init c = (omega arith, refl, refl)
 
--- Where the call began, from the loop.
-abbrev start : At-loop-i invariant-loop decreases-loop → Start invariant-loop decreases-loop
-start c = c.before.before.before.before.before
-
 -- The room is as long as it was.
-long : (c : At-loop-i) → length c.loop-i.room ≡ length (start c).args.room.now
-long c =
-    let a = (start c).args in
-    ap length c.loop-i.invariant.2 ∙ length-sets a.room.now 2 (encode_products (products_by (listed a.equations) a.m a.choice c.loop-i.i))
+long : (products room done : List ℕ) → done ≡ sets room 2 products → length done ≡ length room
+long products room done e = ap length e ∙ length-sets room 2 products
 
 pub product_of-product-requires : goal.product_of-product-requires
 product_of-product-requires c =
-    let s = start (goal.at.product_of-product-requires c).At-loop-i in
-    let e = s.pre.1.0.entry c.loop-i.i (omega arith) in
-    (s.pre.0, (e.few, entry-candidate e))
+    let e = c.requires.choice.entry c.loop-i.i (omega arith) in
+    record { equations_value = c.requires.equations_value; m_le_max_listed = e.few; candidate = entry-candidate e }
 
 pub put_product-at-requires : goal.put_product-at-requires
 put_product-at-requires c =
-    let s = start (goal.at.put_product-at-requires c).At-loop-i in
     let l = c.loop-i in
     let v = c.product_of-product in record {
-      product = is (listed s.args.equations) s.args.m s.args.choice s.pre.1.0 l.i (omega arith) v.result v.ensures;
-      factors_in_bounds = fits (listed s.args.equations) s.args.m s.args.choice s.pre.1.0 l.i (omega arith) v.result v.ensures l.at (length l.room) l.invariant.1 (omega (arith, s.pre.1.1, long (goal.at.put_product-at-requires c).At-loop-i));
+      product = is (listed c.args.equations) c.args.m c.args.choice c.requires.choice l.i (omega arith) v.result v.ensures;
+      factors_in_bounds = fits (listed c.args.equations) c.args.m c.args.choice c.requires.choice l.i (omega arith) v.result v.ensures l.at (length l.room) l.invariant.1 (omega (arith, c.requires.choice_in_bounds, long (encode_products (products_by (listed c.args.equations) c.args.m c.args.choice c.loop-i.i)) c.args.room.now c.loop-i.room c.loop-i.invariant.2));
     }
 
 pub loop-i-preserved : goal.loop-i-preserved
 loop-i-preserved c =
-    let s = start (goal.at.loop-i-preserved c).At-loop-i in
     let l = c.loop-i in
     let v = c.product_of-product in
     let p = c.put_product-at in (
       omega arith,
-      p.ensures.0 ∙ behind (listed s.args.equations) s.args.m s.args.choice s.pre.1.0 l.i (omega arith) v.result v.ensures l.at l.invariant.1,
-      next (listed s.args.equations) s.args.m s.args.choice s.pre.1.0 l.i (omega arith) v.result v.ensures s.args.room.now l.room p.new.0 l.at l.invariant.1 l.invariant.2 p.ensures.1,
+      p.ensures.value ∙ behind (listed c.args.equations) c.args.m c.args.choice c.requires.choice l.i (omega arith) v.result v.ensures l.at l.invariant.1,
+      next (listed c.args.equations) c.args.m c.args.choice c.requires.choice l.i (omega arith) v.result v.ensures c.args.room.now l.room p.new.room l.at l.invariant.1 l.invariant.2 p.ensures.room_after,
     )
 
 pub shape_of-room : goal.shape_of-room
-shape_of-room c = long (goal.at.shape_of-room c).At-loop-i
+shape_of-room c = long (encode_products (products_by (listed c.args.equations) c.args.m c.args.choice c.loop-i.i)) c.args.room.now c.loop-i.room c.loop-i.invariant.2
 
 pub returns : goal.returns
 returns c =
-    let s = start (goal.at.returns c).At-loop-i in
     let l = c.loop-i in
-    let e : l.i ≡ s.args.choice.count = omega arith in record {
-      value = l.invariant.1 ∙ ap (λ (k : ℕ). 2 + products_length s.args.m s.args.choice.degrees k) e;
-      room_after = l.invariant.2 ∙ ap (λ (k : ℕ). sets s.args.room.now 2 (encode_products (products_by (listed s.args.equations) s.args.m s.args.choice k))) e;
+    let e : l.i ≡ c.args.choice.count = omega arith in record {
+      value = l.invariant.1 ∙ ap (λ (k : ℕ). 2 + products_length c.args.m c.args.choice.degrees k) e;
+      room_after = l.invariant.2 ∙ ap (λ (k : ℕ). sets c.args.room.now 2 (encode_products (products_by (listed c.args.equations) c.args.m c.args.choice k))) e;
     }

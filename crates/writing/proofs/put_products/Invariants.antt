@@ -10,7 +10,7 @@ use Rattle.writing.proofs.put_products.Given as goal
 
 abbrev pub invariant-loop-i : goal.invariant-loop-i
 invariant-loop-i l = (l.i ≤ l.count) × (l.at ≡ 2 + products_length l.m l.degrees l.i)
-    × (l.room ≡ sets l.initial.room 2 (encode_products (products_by (listed l.equations) l.m (record { l.count = l.count; l.degrees = l.degrees; l.points = l.points; l.entries = l.entries }) l.i)))
+    × (l.room ≡ sets l.initial.room 2 (encode_products (products_by (listed l.equations) l.m (record { count = l.count; degrees = l.degrees; points = l.points; entries = l.entries }) l.i)))
 
 abbrev pub decreases-loop-i : goal.decreases-loop-i
 decreases-loop-i l = l.count - l.i

@@ -1,7 +1,7 @@
 -- `writing::write_form` meets its contract: the tests in their order, then the products of the primes chosen. Assumes nothing.
 use mathlib.Core.Path.{◌≡◌, sym, ◌∙◌}
 use mathlib.Core.List.{List}
-use Prim.Native.Nat.{ℕ}
+use Prim.Native.Nat.{ℕ, ◌-◌, ◌≤◌}
 use native.Mathlib.Omega.{arith}
 use Rattle.basis.proofs.Values.{short-listed, short-again}
 use lib.ListN.{length}
@@ -10,12 +10,18 @@ use Rattle.basis.specs.Reduced.{vectors_of, BasisWithin}
 use Rattle.table.specs.Refusal.{first_fault}
 use Rattle.table.specs.Table.{Accepted, table_fault}
 use Rattle.table.proofs.Table.{accepted}
-use Rattle.space.specs.Restriction.{equations}
+use Rattle.space.specs.declared.Completed.{Completed}
+use Rattle.space.specs.Witness.{flagged}
+use Rattle.space.specs.Completion.{IsCompleted}
+use Rattle.space.specs.Restriction.{equations, restriction}
 use Rattle.projection.proofs.Restrictions.{spans-few, completed-spans}
+use Rattle.cubes.specs.Records.{max_listed}
+use Rattle.choice.specs.declared.Choice.{Choice}
+use Rattle.choice.specs.Chosen.{Chose}
+use Rattle.writing.specs.Products.{form_length}
 use Rattle.writing.specs.Writing.{form_tests, form_bytes}
-use Rattle.writing.proofs.Answers.{size-refused, size-passed, chosen-length, chosen-numbers, chosen-room, table-first, size-first, none_first, write-ways}
+use Rattle.writing.proofs.Ways.{size-refused, size-passed, chosen-length, chosen-numbers, chosen-room, table-first, size-first, none_first, write-ways}
 use Rattle.writing.proofs.write_form.Goals as goal
-use Rattle.writing.proofs.write_form.Goals.{After-complete-completed, After-equations-equations, After-form_length-length, Else-fault-ne0, Else-m-gt-MAX_LISTED}
 
 pub returns-then-fault-ne0 : goal.returns-then-fault-ne0
 returns-then-fault-ne0 c =
@@ -23,113 +29,83 @@ returns-then-fault-ne0 c =
     let t = c.table_fault-fault in
     (write-ways a.n a.on.now a.free.now a.room.now).faulty t.result (table-first a.n a.on.now a.free.now t.result t.ensures c.if-fault-ne0.true) c.if-fault-ne0.true c.refused.result c.refused.ensures
 
--- Past the first test: the arguments, and that they are an accepted table.
-module _ (c : Else-fault-ne0) where
-  abbrev n : ℕ
-  n = c.args.n
-
-  abbrev on : List ℕ
-  on = c.args.on.now
-
-  abbrev free : List ℕ
-  free = c.args.free.now
-
-  abbrev room : List ℕ
-  room = c.args.room.now
-
-  passed : table_fault n on free ≡ 0
-  passed = sym c.table_fault-fault.ensures ∙ c.if-fault-ne0.false
-
-  table : Accepted n on free
-  table = accepted n on free passed
+-- Past the first test the arguments are an accepted table.
+table : (n : ℕ) (on free : List ℕ) (fault : ℕ) → fault ≡ table_fault n on free → fault ≡ 0 → Accepted n on free
+table n on free fault e z = accepted n on free (sym e ∙ z)
 
 pub complete-completed-requires : goal.complete-completed-requires
-complete-completed-requires c = table c
+complete-completed-requires c = table c.args.n c.args.on.now c.args.free.now c.table_fault-fault.result c.table_fault-fault.ensures c.if-fault-ne0.false
 
 -- The table is completed: its space is one of n variables.
-within : (c : After-complete-completed) → BasisWithin (n c{-Else-fault-ne0-}) c.complete-completed.result.basis
-within c = completed-spans c.complete-completed.ensures (table c{-Else-fault-ne0-}).few
+within : (n : ℕ) (on free : List ℕ) (fault : ℕ) → fault ≡ table_fault n on free → fault ≡ 0 → (d : Completed) → IsCompleted n on free d → BasisWithin n d.basis
+within n on free fault e z d k = completed-spans k (table n on free fault e z).few
 
 pub overflow_sub-m : goal.overflow_sub-m
-overflow_sub-m c = spans-few (within (goal.at.overflow_sub-m c).After-complete-completed)
+overflow_sub-m c =
+    spans-few (within c.args.n c.args.on.now c.args.free.now c.table_fault-fault.result c.table_fault-fault.ensures c.if-fault-ne0.false c.complete-completed.result c.complete-completed.ensures)
 
 pub returns-then-m-gt-MAX_LISTED : goal.returns-then-m-gt-MAX_LISTED
 returns-then-m-gt-MAX_LISTED c =
-    let large = size-refused (n (goal.at.returns-then-m-gt-MAX_LISTED c).Else-fault-ne0) (on (goal.at.returns-then-m-gt-MAX_LISTED c).Else-fault-ne0) (free (goal.at.returns-then-m-gt-MAX_LISTED c).Else-fault-ne0) c.complete-completed.result c.complete-completed.ensures c.if-m-gt-MAX_LISTED.true in
-    (write-ways (n (goal.at.returns-then-m-gt-MAX_LISTED c).Else-fault-ne0) (on (goal.at.returns-then-m-gt-MAX_LISTED c).Else-fault-ne0) (free (goal.at.returns-then-m-gt-MAX_LISTED c).Else-fault-ne0) (room (goal.at.returns-then-m-gt-MAX_LISTED c).Else-fault-ne0)).faulty _ (size-first (n (goal.at.returns-then-m-gt-MAX_LISTED c).Else-fault-ne0) (on (goal.at.returns-then-m-gt-MAX_LISTED c).Else-fault-ne0) (free (goal.at.returns-then-m-gt-MAX_LISTED c).Else-fault-ne0) (passed (goal.at.returns-then-m-gt-MAX_LISTED c).Else-fault-ne0) large) (λ z. omega arith) c.refused-then-m-gt-MAX_LISTED.result c.refused-then-m-gt-MAX_LISTED.ensures
+    let a = c.args in
+    let t = c.table_fault-fault in
+    let d = c.complete-completed in
+    let large = size-refused a.n a.on.now a.free.now d.result d.ensures c.if-m-gt-MAX_LISTED.true in
+    (write-ways a.n a.on.now a.free.now a.room.now).faulty _ (size-first a.n a.on.now a.free.now (sym t.ensures ∙ c.if-fault-ne0.false) large) (λ z. omega arith) c.refused-then-m-gt-MAX_LISTED.result c.refused-then-m-gt-MAX_LISTED.ensures
 
 -- Past the second test the restriction is small enough, so that nothing but the room is refused.
-module _ (c : Else-m-gt-MAX_LISTED) where
-  abbrev completing : After-complete-completed
-  completing = c{-After-complete-completed-}
-
-  abbrev tested : Else-fault-ne0
-  tested = completing.before
-
-  sound : first_fault (form_tests (n tested) (on tested) (free tested)) ≡ 0
-  sound =
-      none_first (n tested) (on tested) (free tested) (passed tested)
-      (size-passed (n tested) (on tested) (free tested) completing.complete-completed.result completing.complete-completed.ensures c.if-m-gt-MAX_LISTED.false)
+sound : (n : ℕ) (on free : List ℕ) (fault : ℕ) → fault ≡ table_fault n on free → fault ≡ 0 → (d : Completed) → IsCompleted n on free d → n - d.basis.len ≤ max_listed → first_fault (form_tests n on free) ≡ 0
+sound n on free fault e z d k h = none_first n on free (sym e ∙ z) (size-passed n on free d k h)
 
 pub choose_restriction-choice-requires : goal.choose_restriction-choice-requires
 choose_restriction-choice-requires c = record {
-      basis_within = within (completing (goal.at.choose_restriction-choice-requires c).Else-m-gt-MAX_LISTED);
+      basis_within = within c.args.n c.args.on.now c.args.free.now c.table_fault-fault.result c.table_fault-fault.ensures c.if-fault-ne0.false c.complete-completed.result c.complete-completed.ensures;
       len_bound = c.if-m-gt-MAX_LISTED.false;
     }
 
 -- The primes are chosen, and the length of their form is counted.
-module _ (c : After-form_length-length) where
-  abbrev sized : Else-m-gt-MAX_LISTED
-  sized = c{-Else-m-gt-MAX_LISTED-}
-
-  counted : c.form_length-length.result ≡ length (form_bytes (n (tested sized)) (on (tested sized)) (free (tested sized)))
-  counted =
-      let t = tested sized in
-      let d = (completing sized).complete-completed in
-      let r = c.choose_restriction-choice in
-      c.form_length-length.ensures ∙ chosen-length (n t) (on t) (free t) d.result d.ensures r.result r.ensures
+counted : (n : ℕ) (on free : List ℕ) (d : Completed) → IsCompleted n on free d → (r : Choice) → Chose (n - d.basis.len) (restriction n (vectors_of d.basis) (flagged d.flags)) r
+    → (length_of : ℕ) → length_of ≡ form_length (n - d.basis.len) r → length_of ≡ length (form_bytes n on free)
+counted n on free d k r h l e = e ∙ chosen-length n on free d k r h
 
 pub returns-then-room-length : goal.returns-then-room-length
 returns-then-room-length c =
-    let t = tested (sized (goal.at.returns-then-room-length c).After-form_length-length) in
-    (write-ways (n t) (on t) (free t) (room t)).short (sound (sized (goal.at.returns-then-room-length c).After-form_length-length)) (omega (arith, counted (goal.at.returns-then-room-length c).After-form_length-length)) c.refused-then-room-length.result c.refused-then-room-length.ensures
+    let a = c.args in
+    let d = c.complete-completed in
+    let r = c.choose_restriction-choice in
+    let l = c.form_length-length in
+    let q = counted a.n a.on.now a.free.now d.result d.ensures r.result r.ensures l.result l.ensures in
+    (write-ways a.n a.on.now a.free.now a.room.now).short
+    (sound a.n a.on.now a.free.now c.table_fault-fault.result c.table_fault-fault.ensures c.if-fault-ne0.false d.result d.ensures c.if-m-gt-MAX_LISTED.false)
+    (omega (arith, q)) c.refused-then-room-length.result c.refused-then-room-length.ensures
 
 pub equations-equations-requires : goal.equations-equations-requires
 equations-equations-requires c =
-    let w = within (completing (sized (goal.at.equations-equations-requires c).After-form_length-length)) in
+    let w = within c.args.n c.args.on.now c.args.free.now c.table_fault-fault.result c.table_fault-fault.ensures c.if-fault-ne0.false c.complete-completed.result c.complete-completed.ensures in
     record { basis = w.basis; n_le_max_variables = w.few }
-
--- The equations are those of the space that was found.
-module _ (c : After-equations-equations) where
-  abbrev counting : After-form_length-length
-  counting = c{-After-form_length-length-}
-
-  abbrev bound : List ℕ
-  bound = equations (n (tested (sized counting))) (vectors_of (completing (sized counting)).complete-completed.result.basis)
-
-  found : c.equations-equations.result ≡ short bound
-  found = c.equations-equations.ensures
 
 pub put_form-requires : goal.put_form-requires
 put_form-requires c =
-    let l = counting (goal.at.put_form-requires c).After-equations-equations in (
-      (table (tested (sized l))).few,
-      (
-        short-again c.equations-equations.result (bound (goal.at.put_form-requires c).After-equations-equations) (found (goal.at.put_form-requires c).After-equations-equations),
-        (l.before.choose_restriction-choice.ensures.valid, omega (arith, l.form_length-length.ensures)),
-      ),
-    )
+    let q = c.equations-equations in
+    record {
+      n_le_max_variables = (table c.args.n c.args.on.now c.args.free.now c.table_fault-fault.result c.table_fault-fault.ensures c.if-fault-ne0.false).few;
+      equations_value = short-again q.result (equations c.args.n (vectors_of c.complete-completed.result.basis)) q.ensures;
+      choice = c.choose_restriction-choice.ensures.valid;
+      choice_in_bounds = omega (arith, c.form_length-length.ensures);
+    }
 
 pub returns : goal.returns
 returns c =
-    let l = counting (goal.at.returns c).After-equations-equations in
-    let t = tested (sized l) in
-    let d = (completing (sized l)).complete-completed in
-    let r = l.before.choose_restriction-choice in
+    let a = c.args in
+    let d = c.complete-completed in
+    let r = c.choose_restriction-choice in
+    let l = c.form_length-length in
+    let q = c.equations-equations in
     let p = c.put_form in
-    let after = p.new.1.1.1.1.0 in
-    (write-ways (n t) (on t) (free t) (room t)).whole (sound (sized l)) (omega (arith, counted l, c.if-room-length.false))
-    (record { refusal = 0; length = l.form_length-length.result; products = r.result.count }) after
-    (chosen-numbers (n t) (on t) (free t) d.result d.ensures r.result r.ensures l.form_length-length.result l.form_length-length.ensures)
-    (chosen-room (n t) (on t) (free t) d.result d.ensures r.result r.ensures (listed c.equations-equations.result) (room t) after
-    (short-listed c.equations-equations.result (bound (goal.at.returns c).After-equations-equations) (found (goal.at.returns c).After-equations-equations)) p.ensures)
+    let e = counted a.n a.on.now a.free.now d.result d.ensures r.result r.ensures l.result l.ensures in
+    (write-ways a.n a.on.now a.free.now a.room.now).whole
+    (sound a.n a.on.now a.free.now c.table_fault-fault.result c.table_fault-fault.ensures c.if-fault-ne0.false d.result d.ensures c.if-m-gt-MAX_LISTED.false)
+    (omega (arith, e, c.if-room-length.false))
+    (record { refusal = 0; length = l.result; products = r.result.count }) p.new.room
+    (chosen-numbers a.n a.on.now a.free.now d.result d.ensures r.result r.ensures l.result l.ensures)
+    (chosen-room a.n a.on.now a.free.now d.result d.ensures r.result r.ensures (listed q.result) a.room.now p.new.room
+    (short-listed q.result (equations a.n (vectors_of d.result.basis)) q.ensures) p.ensures)
