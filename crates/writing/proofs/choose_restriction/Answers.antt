@@ -41,14 +41,14 @@ overflow_sub-n c = spans-few c.requires.basis_within
 
 pub slice_bounds-choose-end : goal.slice_bounds-choose-end
 slice_bounds-choose-end c =
-    front_fits (kept c.args.n c.leads-leads.result (flagged c.args.flags.now)) (replicate max_chosen 0) c.write_kept.new.points c.count_kept-count.result c.write_kept.ensures c.count_kept-count.ensures
+    front_fits (kept c.args.n c.leads-leads.result (flagged c.args.flags.now)) (replicate max_chosen 0) c.write_kept.new.room c.count_kept-count.result c.write_kept.ensures c.count_kept-count.ensures
 
 pub choose-requires : goal.choose-requires
 choose-requires c =
     let a = c.args in
     let k = c.requires.basis_within in
     let f = flagged a.flags.now in
-    let e = part a.n a.basis k c.requires.len_bound f c.leads-leads.result c.leads-leads.ensures c.count_kept-count.result c.count_kept-count.ensures (replicate max_chosen 0) c.write_kept.new.points c.write_kept.ensures in
+    let e = part a.n a.basis k c.requires.len_bound f c.leads-leads.result c.leads-leads.ensures c.count_kept-count.result c.count_kept-count.ensures (replicate max_chosen 0) c.write_kept.new.room c.write_kept.ensures in
     record {
       m_le_max_listed = c.requires.len_bound;
       on_value = ap (outside (a.n - a.basis.len)) e ∙ points-inside k f;
@@ -59,5 +59,5 @@ pub returns : goal.returns
 returns c =
     let a = c.args in
     subst (λ (l : List ℕ). Chose (a.n - a.basis.len) l c.choose.result)
-    (part a.n a.basis c.requires.basis_within c.requires.len_bound (flagged a.flags.now) c.leads-leads.result c.leads-leads.ensures c.count_kept-count.result c.count_kept-count.ensures (replicate max_chosen 0) c.write_kept.new.points c.write_kept.ensures)
+    (part a.n a.basis c.requires.basis_within c.requires.len_bound (flagged a.flags.now) c.leads-leads.result c.leads-leads.ensures c.count_kept-count.result c.count_kept-count.ensures (replicate max_chosen 0) c.write_kept.new.room c.write_kept.ensures)
     c.choose.ensures

@@ -1,6 +1,5 @@
 -- `writing::form_length` meets its contract: what is counted is the first record and the products passed. Assumes nothing.
 use mathlib.Core.Path.{◌≡◌, refl, ap}
-use Prim.Native.Nat.{◌-◌}
 use native.Mathlib.Numerals.{add-one}
 use native.Mathlib.Omega.{arith}
 use Rattle.writing.specs.Products.{products_length}

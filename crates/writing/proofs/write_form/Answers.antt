@@ -5,9 +5,9 @@ use Prim.Native.Nat.{ℕ, ◌-◌, ◌≤◌}
 use native.Mathlib.Omega.{arith}
 use Rattle.basis.proofs.Values.{short-listed, short-again}
 use lib.ListN.{length}
-use Rattle.basis.specs.Short.{listed, short}
+use Rattle.basis.specs.Short.{listed}
 use Rattle.basis.specs.Reduced.{vectors_of, BasisWithin}
-use Rattle.table.specs.Refusal.{first_fault}
+use Rattle.table.specs.Refusal.{first_fault, size_fault}
 use Rattle.table.specs.Table.{Accepted, table_fault}
 use Rattle.table.proofs.Table.{accepted}
 use Rattle.space.specs.declared.Completed.{Completed}
@@ -27,7 +27,8 @@ pub returns-then-fault-ne0 : goal.returns-then-fault-ne0
 returns-then-fault-ne0 c =
     let a = c.args in
     let t = c.table_fault-fault in
-    (write-ways a.n a.on.now a.free.now a.room.now).faulty t.result (table-first a.n a.on.now a.free.now t.result t.ensures c.if-fault-ne0.true) c.if-fault-ne0.true c.refused.result c.refused.ensures
+    let w = (write-ways a.n a.on.now a.free.now a.room.now).faulty t.result (table-first a.n a.on.now a.free.now t.result t.ensures c.if-fault-ne0.true) c.if-fault-ne0.true c.refused.result c.refused.ensures in
+    record { value = w.0; room_after = w.1 }
 
 -- Past the first test the arguments are an accepted table.
 table : (n : ℕ) (on free : List ℕ) (fault : ℕ) → fault ≡ table_fault n on free → fault ≡ 0 → Accepted n on free
@@ -50,7 +51,8 @@ returns-then-m-gt-MAX_LISTED c =
     let t = c.table_fault-fault in
     let d = c.complete-completed in
     let large = size-refused a.n a.on.now a.free.now d.result d.ensures c.if-m-gt-MAX_LISTED.true in
-    (write-ways a.n a.on.now a.free.now a.room.now).faulty _ (size-first a.n a.on.now a.free.now (sym t.ensures ∙ c.if-fault-ne0.false) large) (λ z. omega arith) c.refused-then-m-gt-MAX_LISTED.result c.refused-then-m-gt-MAX_LISTED.ensures
+    let w = (write-ways a.n a.on.now a.free.now a.room.now).faulty size_fault (size-first a.n a.on.now a.free.now (sym t.ensures ∙ c.if-fault-ne0.false) large) (λ z. omega arith) c.refused-then-m-gt-MAX_LISTED.result c.refused-then-m-gt-MAX_LISTED.ensures in
+    record { value = w.0; room_after = w.1 }
 
 -- Past the second test the restriction is small enough, so that nothing but the room is refused.
 sound : (n : ℕ) (on free : List ℕ) (fault : ℕ) → fault ≡ table_fault n on free → fault ≡ 0 → (d : Completed) → IsCompleted n on free d → n - d.basis.len ≤ max_listed → first_fault (form_tests n on free) ≡ 0
@@ -58,9 +60,9 @@ sound n on free fault e z d k h = none_first n on free (sym e ∙ z) (size-passe
 
 pub choose_restriction-choice-requires : goal.choose_restriction-choice-requires
 choose_restriction-choice-requires c = record {
-      basis_within = within c.args.n c.args.on.now c.args.free.now c.table_fault-fault.result c.table_fault-fault.ensures c.if-fault-ne0.false c.complete-completed.result c.complete-completed.ensures;
-      len_bound = c.if-m-gt-MAX_LISTED.false;
-    }
+  basis_within = within c.args.n c.args.on.now c.args.free.now c.table_fault-fault.result c.table_fault-fault.ensures c.if-fault-ne0.false c.complete-completed.result c.complete-completed.ensures;
+  len_bound = c.if-m-gt-MAX_LISTED.false;
+}
 
 -- The primes are chosen, and the length of their form is counted.
 counted : (n : ℕ) (on free : List ℕ) (d : Completed) → IsCompleted n on free d → (r : Choice) → Chose (n - d.basis.len) (restriction n (vectors_of d.basis) (flagged d.flags)) r
@@ -74,9 +76,10 @@ returns-then-room-length c =
     let r = c.choose_restriction-choice in
     let l = c.form_length-length in
     let q = counted a.n a.on.now a.free.now d.result d.ensures r.result r.ensures l.result l.ensures in
-    (write-ways a.n a.on.now a.free.now a.room.now).short
+    let w = (write-ways a.n a.on.now a.free.now a.room.now).short
     (sound a.n a.on.now a.free.now c.table_fault-fault.result c.table_fault-fault.ensures c.if-fault-ne0.false d.result d.ensures c.if-m-gt-MAX_LISTED.false)
-    (omega (arith, q)) c.refused-then-room-length.result c.refused-then-room-length.ensures
+    (omega (arith, q)) c.refused-then-room-length.result c.refused-then-room-length.ensures in
+    record { value = w.0; room_after = w.1 }
 
 pub equations-equations-requires : goal.equations-equations-requires
 equations-equations-requires c =
@@ -102,10 +105,11 @@ returns c =
     let q = c.equations-equations in
     let p = c.put_form in
     let e = counted a.n a.on.now a.free.now d.result d.ensures r.result r.ensures l.result l.ensures in
-    (write-ways a.n a.on.now a.free.now a.room.now).whole
+    let w = (write-ways a.n a.on.now a.free.now a.room.now).whole
     (sound a.n a.on.now a.free.now c.table_fault-fault.result c.table_fault-fault.ensures c.if-fault-ne0.false d.result d.ensures c.if-m-gt-MAX_LISTED.false)
     (omega (arith, e, c.if-room-length.false))
     (record { refusal = 0; length = l.result; products = r.result.count }) p.new.room
     (chosen-numbers a.n a.on.now a.free.now d.result d.ensures r.result r.ensures l.result l.ensures)
     (chosen-room a.n a.on.now a.free.now d.result d.ensures r.result r.ensures (listed q.result) a.room.now p.new.room
-    (short-listed q.result (equations a.n (vectors_of d.result.basis)) q.ensures) p.ensures)
+    (short-listed q.result (equations a.n (vectors_of d.result.basis)) q.ensures) p.ensures) in
+    record { value = w.0; room_after = w.1 }
