@@ -4,4 +4,4 @@ use mathlib.Core.Bool.{◌||◌}
 use Rattle.closure_set.proofs.allowed_points.Goals as goal
 
 pub returns : goal.returns
-returns c x = c.either.ensures x ∙ ap₂ ◌||◌ (c.before.before.before.before.set_of-on_set.ensures x) (c.before.before.before.set_of-free_set.ensures x)
+returns c x = c.either.ensures x ∙ ap₂ ◌||◌ (c.set_of-on_set.ensures x) (c.set_of-free_set.ensures x)

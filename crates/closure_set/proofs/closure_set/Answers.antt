@@ -31,9 +31,8 @@ loop-i-preserved c =
 pub returns : goal.returns
 unfolding closes
 returns c a h =
-    let l = c.before.loop-i in
-    let p = c.before.before in
-    let s = p.before.before.before in
+    let l = c.loop-i in
+    let on = c.args.on.now in
     l.invariant.1 a h
-    ∙ ap (every (λ w. member p.allowed_points-allowed.result (w ⊕ a))) (take_all l.i s.args.on.now (omega arith))
-    ∙ ap (λ (t : ℕ → Bool). every (λ w. t (w ⊕ a)) s.args.on.now) (fun_ext p.allowed_points-allowed.ensures)
+    ∙ ap (every (λ w. member c.allowed_points-allowed.result (w ⊕ a))) (take_all l.i on (omega arith))
+    ∙ ap (λ (t : ℕ → Bool). every (λ w. t (w ⊕ a)) on) (fun_ext c.allowed_points-allowed.ensures)

@@ -34,5 +34,5 @@ loop-w-preserved c =
 
 pub returns : goal.returns
 returns c w h =
-    let l = c.before.loop-w in
-    l.invariant.2 w (omega arith) ∙ c.before.before.spread_points-points.ensures w
+    let l = c.loop-w in
+    l.invariant.2 w (omega arith) ∙ c.spread_points-points.ensures w

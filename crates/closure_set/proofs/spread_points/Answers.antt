@@ -43,7 +43,6 @@ loop-i-preserved c =
 pub returns : goal.returns
 unfolding some_point
 returns c w =
-    let l = c.before.loop-i in
-    let s = c.before.before.before.before.before in
-    let b = s.args.basis in
-    ap (λ bs. some_point (member l.points) bs w) (sym (vector-end b s.requires.basis_within.basis l.i (omega arith))) ∙ l.invariant.1 w
+    let l = c.loop-i in
+    let b = c.args.basis in
+    ap (λ bs. some_point (member l.points) bs w) (sym (vector-end b c.requires.basis_within.basis l.i (omega arith))) ∙ l.invariant.1 w

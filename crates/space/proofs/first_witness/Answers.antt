@@ -3,7 +3,7 @@
 use mathlib.Core.Path.{◌≡◌, refl, sym, ap, ◌∙◌, subst, subst⁻¹}
 use mathlib.Core.Logic.{inl, inr}
 use mathlib.Core.List.{List}
-use Prim.Native.Nat.{ℕ, ◌^◌, ◌≤◌, ◌<◌}
+use Prim.Native.Nat.{ℕ, ◌≤◌, ◌<◌}
 use native.Mathlib.Nat.{not-suc-le-zero}
 use native.Mathlib.Numerals.{add-one}
 use native.Mathlib.Omega.{arith}
@@ -29,28 +29,27 @@ loop-p-init c = (c.search.invariant.0, λ q h. absurd (not-suc-le-zero h))
 
 -- Both flags that are compared are there.
 vector-room : (n : ℕ) (vs : List ℕ) (i vector : ℕ) → n ≤ max_variables → Searchable n vs → i < length vs → vector ≡ get_or vs i 0 → vector < max_points
-vector-room n vs i vector few h l e = omega (arith, e, h.below (get_or vs i 0) (get_d-mem vs i 0 l), pow_mono few)
-
-point-room : (n points count p : ℕ) → n ≤ max_variables → points ≡ 2 ^ n → count ≡ points → p < count → p < max_points
-point-room n points count p few e q l = omega (arith, pow_mono few)
+vector-room n vs i vector few h i_lt e = omega (arith, e, h.below (get_or vs i 0) (get_d-mem vs i 0 i_lt), pow_mono few)
 
 pub bounds-flags-p : goal.bounds-flags-p
 bounds-flags-p c =
-    xor_lt max_variables c.loop-p.p c.flag_place-vector.result
-    (point-room c.args.n c.point_count.result c.flag_place-count.result c.loop-p.p c.requires.n_le_max_variables c.point_count.ensures c.flag_place-count.ensures c.loop-p-test.true)
-    (vector-room c.args.n c.args.vectors.now c.search.i c.flag_place-vector.result c.requires.n_le_max_variables c.requires.searchable c.search-test.true c.flag_place-vector.ensures)
+    let room = vector-room c.args.n c.args.vectors.now c.search.i c.flag_place-vector.result c.requires.n_le_max_variables c.requires.searchable c.search-test.true c.flag_place-vector.ensures in
+    xor_lt max_variables c.loop-p.p c.flag_place-vector.result (omega (arith, room, c.flag_place-count.ensures, c.point_count.ensures, pow_mono c.requires.n_le_max_variables)) room
 
 pub bounds-flags-p-in-loop-p : goal.bounds-flags-p-in-loop-p
 bounds-flags-p-in-loop-p c =
-    point-room c.args.n c.point_count.result c.flag_place-count.result c.loop-p.p c.requires.n_le_max_variables c.point_count.ensures c.flag_place-count.ensures c.loop-p-test.true
+    let room = vector-room c.args.n c.args.vectors.now c.search.i c.flag_place-vector.result c.requires.n_le_max_variables c.requires.searchable c.search-test.true c.flag_place-vector.ensures in
+    omega (arith, room, c.flag_place-count.ensures, c.point_count.ensures, pow_mono c.requires.n_le_max_variables)
 
 pub overflow_cast-found : goal.overflow_cast-found
 overflow_cast-found c =
-    omega (arith, point-room c.args.n c.point_count.result c.flag_place-count.result c.loop-p.p c.requires.n_le_max_variables c.point_count.ensures c.flag_place-count.ensures c.loop-p-test.true)
+    let room = vector-room c.args.n c.args.vectors.now c.search.i c.flag_place-vector.result c.requires.n_le_max_variables c.requires.searchable c.search-test.true c.flag_place-vector.ensures in
+    omega (arith, room, c.flag_place-count.ensures, c.point_count.ensures, pow_mono c.requires.n_le_max_variables)
 
 pub loop-p-smaller : goal.loop-p-smaller
 loop-p-smaller c =
-    omega (arith, point-room c.args.n c.point_count.result c.flag_place-count.result c.loop-p.p c.requires.n_le_max_variables c.point_count.ensures c.flag_place-count.ensures c.loop-p-test.true)
+    let room = vector-room c.args.n c.args.vectors.now c.search.i c.flag_place-vector.result c.requires.n_le_max_variables c.requires.searchable c.search-test.true c.flag_place-vector.ensures in
+    omega (arith, room, c.flag_place-count.ensures, c.point_count.ensures, pow_mono c.requires.n_le_max_variables)
 
 pub loop-p-preserved : goal.loop-p-preserved
 loop-p-preserved c =

@@ -93,7 +93,7 @@ module _ (n : ℕ) (f : ℕ → Bool) where
   whole few b e = subst⁻¹ (λ (x : Basis). Built x (linear_space n f) (In n (closed n f))) e
       (built (linear_space n f) (In n (closed n f)) (linear-reduced n f) (λ c m. omega (arith, linear-below n f c m, pow_mono few)) (linear-span n f))
 
--- ---- the needs
+-- ---- the answers
 pub slice_bounds-units-end : goal.slice_bounds-units-end
 slice_bounds-units-end c = let room : length c.full-full.result.vectors ≡ max_variables = search rules in omega arith
 
