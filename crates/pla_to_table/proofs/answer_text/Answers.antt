@@ -17,7 +17,7 @@ fewer count input h g = omega (arith, length-take-le count input h)
 
 pub returns-then-count-gt-MAX_TEXT-clause-by_index : goal.returns-then-count-gt-MAX_TEXT-clause-by_index
 returns-then-count-gt-MAX_TEXT-clause-by_index c =
-    let long = more c.args.count c.args.input.now c.requires.count_in_bounds c.if-count-gt-MAX_TEXT.true in
+    let long = more c.args.count c.args.input.now c.requires.count_in_bounds (omega arith) in
     stands-whole c.args.input.now _ _ c.args.count c.args.output _ c.requires.input_len
     (stands-message (written-long (take c.args.count c.args.input.now) c.args.output long) (omega (arith, c.requires.message_len)) c.write_word-length.ensures)
 
@@ -25,7 +25,7 @@ pub returns-then-read-ne0-clause-by_index : goal.returns-then-read-ne0-clause-by
 returns-then-read-ne0-clause-by_index c =
     let p = c.read_pla-read in
     let v = c.write_refused-length.ensures in
-    let short = fewer c.args.count c.args.input.now c.requires.count_in_bounds c.if-count-gt-MAX_TEXT.false in
+    let short = fewer c.args.count c.args.input.now c.requires.count_in_bounds (omega arith) in
     let said = written-refused (take c.args.count c.args.input.now) c.args.output _ _ p.result short c.requires.table_len p.ensures.value p.ensures.room_after c.if-read-ne0.true in
     stands-whole c.args.input.now _ _ c.args.count c.args.output _ c.requires.input_len
     (stands-message said (omega (arith, v.wrote.place, v.upper_bound, wrote-length v.wrote)) v.wrote)
@@ -33,7 +33,7 @@ returns-then-read-ne0-clause-by_index c =
 pub returns-clause-by_index : goal.returns-clause-by_index
 returns-clause-by_index c =
     let p = c.read_pla-read in
-    let short = fewer c.args.count c.args.input.now c.requires.count_in_bounds c.if-count-gt-MAX_TEXT.false in
+    let short = fewer c.args.count c.args.input.now c.requires.count_in_bounds (omega arith) in
     stands-whole c.args.input.now _ _ c.args.count c.args.output _ c.requires.input_len
     (stands-table (take c.args.count c.args.input.now) c.args.output _ _ p.result short c.requires.table_len p.ensures.value p.ensures.room_after _ c.if-read-ne0.false)
 
