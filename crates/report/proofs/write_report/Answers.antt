@@ -8,38 +8,29 @@ use Rattle.text.proofs.Writing.{wrote-same, wrote-front, wrote-fits, wrote-part}
 use Rattle.report.specs.Report.{report_text}
 use Rattle.report.proofs.Answering.{report-room, report-long, report-short, report-accepted}
 use Rattle.report.proofs.write_report.Goals as goal
-use Rattle.report.proofs.write_report.Goals.{After-report_text-length}
 
 pub report_text-length-requires : goal.report_text-length-requires
 report_text-length-requires c =
     let t = c.text_room-written in
     report-room c.args.bytes.now t.result t.ensures
 
--- The report is written to an array of its own, which is long enough.
-module _ (c : After-report_text-length) where
-  abbrev start : Start
-  start = c{-Start-}
-
-  abbrev report : List ℕ
-  report = report_text start.args.bytes.now
-
-  large : length report ≤ length c.text_room-written.result
-  large = let t = c.text_room-written in report-long start.args.bytes.now t.result t.ensures
-
 pub returns-then-room-length : goal.returns-then-room-length
 returns-then-room-length c =
-    let a = (start (goal.at.returns-then-room-length c).After-report_text-length).args in
-    report-short a.bytes.now a.room.now (omega (arith, c.report_text-length.ensures.place))
+    let w = report-short c.args.bytes.now c.args.room.now (omega (arith, c.report_text-length.ensures.place)) in
+    record { value = w.0; room_after = w.1 }
 
+-- The report is written to an array of its own, which is long enough.
 pub slice_bounds-write_word-end : goal.slice_bounds-write_word-end
-slice_bounds-write_word-end c = wrote-fits (large (goal.at.slice_bounds-write_word-end c).After-written-1) c.report_text-length.ensures
+slice_bounds-write_word-end c = let t = c.text_room-written in wrote-fits (report-long c.args.bytes.now t.result t.ensures) c.report_text-length.ensures
 
 pub returns : goal.returns
 returns c =
-    let a = (start (goal.at.returns c).After-written-1).args in
-    let n : c.report_text-length.result ≡ length (report (goal.at.returns c).After-written-1) = omega (arith, c.report_text-length.ensures.place) in
-    let fits : length (report (goal.at.returns c).After-written-1) ≤ length a.room.now = omega (arith, c.if-room-length.false) in
-    let part = wrote-part (large (goal.at.returns c).After-written-1) c.report_text-length.ensures in
+    let a = c.args in
+    let t = c.text_room-written in
+    let report = report_text a.bytes.now in
+    let n : c.report_text-length.result ≡ length report = omega (arith, c.report_text-length.ensures.place) in
+    let fits : length report ≤ length a.room.now = omega (arith, c.if-room-length.false) in
+    let part = wrote-part (report-long a.bytes.now t.result t.ensures) c.report_text-length.ensures in
     let k = report-accepted a.bytes.now a.room.now fits in
     record {
       value = ap (λ (j : ℕ). record { refusal = 0; length = j }) n ∙ k.0;

@@ -1,10 +1,9 @@
 -- `table_report::canonical_line` meets its contract: the indices of the canonical variables. Assumes nothing.
-use mathlib.Core.Path.{◌≡◌, sym, ap}
+use mathlib.Core.Path.{sym, ap}
 use mathlib.Core.List.{List}
 use Prim.Native.Nat.{ℕ}
 use Rattle.gf2.specs.Basis.{canonical_places, variables_at}
 use Rattle.basis.specs.declared.Basis.{Basis}
-use Rattle.basis.specs.Short.{short}
 use Rattle.basis.specs.Reduced.{vectors_of}
 use Rattle.basis.proofs.Values.{short-part, short-fits}
 use Rattle.text.proofs.Writing.{room-same, wrote-same}

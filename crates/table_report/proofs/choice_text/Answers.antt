@@ -1,8 +1,7 @@
 -- `table_report::choice_text` meets its contract: the lines of the primes passed are written. Assumes nothing.
-use Prim.Native.Nat.{◌≤◌, ◌-◌}
 use native.Mathlib.Omega.{arith}
 use Rattle.basis.specs.Short.{listed}
-use Rattle.choice.specs.Chosen.{max_chosen, chosen_at}
+use Rattle.choice.specs.Chosen.{chosen_at}
 use Rattle.text.proofs.Writing.{room-piece, wrote_none, wrote-length, wrote-piece, wrote_pieces}
 use Rattle.lines.specs.Lines.{product_line}
 use Rattle.cover.specs.WrittenForm.{product_by}

@@ -1,5 +1,5 @@
 -- `table_report::chosen_line` meets its contract: the line of the prime's product. Assumes nothing.
-use mathlib.Core.Path.{◌≡◌, sym, ap}
+use mathlib.Core.Path.{sym, ap}
 use mathlib.Core.List.{List}
 use Prim.Native.Nat.{ℕ}
 use Rattle.basis.specs.declared.ShortList.{ShortList}
@@ -9,7 +9,6 @@ use Rattle.bases.proofs.Entry.{entry-candidate}
 use Rattle.text.proofs.Writing.{room-same, wrote-same}
 use Rattle.lines.specs.Lines.{product_line}
 use Rattle.product.specs.Product.{Factor}
-use Rattle.factors.specs.Factors.{factors_of}
 use Rattle.cover.specs.WrittenForm.{product_by}
 use Rattle.table_report.proofs.Parts.{constants-fit, masks-fit, product-same, product-zip}
 use Rattle.table_report.proofs.chosen_line.Goals as goal

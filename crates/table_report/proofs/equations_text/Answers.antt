@@ -1,8 +1,5 @@
 -- `table_report::equations_text` meets its contract: a line for each reduction equation. Assumes nothing.
-use mathlib.Core.Path.{◌≡◌, sym, ap}
-use mathlib.Core.List.{List}
-use Prim.Native.Nat.{ℕ}
-use Rattle.basis.specs.Short.{short}
+use mathlib.Core.Path.{sym, ap}
 use Rattle.basis.specs.Reduced.{vectors_of}
 use Rattle.basis.proofs.Values.{short-part, short-fits}
 use Rattle.space.specs.Restriction.{equations}

@@ -1,14 +1,10 @@
 -- `table_report::form_lines` meets its contract: `refused 5`, or the products of the primes chosen. Assumes nothing.
-use mathlib.Core.Path.{◌≡◌, sym}
-use Prim.Native.Nat.{◌-◌}
-use native.Mathlib.Omega.{arith}
-use Rattle.basis.specs.Short.{listed}
+use mathlib.Core.Path.{sym}
 use Rattle.basis.specs.Reduced.{vectors_of}
 use Rattle.basis.proofs.Values.{short-again}
 use Rattle.space.specs.Restriction.{equations}
 use Rattle.projection.proofs.Restrictions.{spans-few}
 use Rattle.text.proofs.Writing.{room-same, wrote-same}
-use Rattle.table_report.specs.Parts.{choice_text, form_lines}
 use Rattle.table_report.proofs.Parts.{basis-refused, basis-chosen}
 use Rattle.table_report.proofs.form_lines.Goals as goal
 

@@ -1,5 +1,5 @@
 -- `table_report::space_text` meets its contract: degree, canonical variables, equations, restriction. Assumes nothing.
-use mathlib.Core.Path.{sym, ap}
+use mathlib.Core.Path.{◌≡◌, sym, ap}
 use mathlib.Core.Bool.{Bool}
 use mathlib.Core.List.{List}
 use Prim.Native.Nat.{ℕ}
