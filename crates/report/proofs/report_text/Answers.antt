@@ -2,15 +2,13 @@
 use mathlib.Core.Path.{◌≡◌, sym}
 use mathlib.Core.Logic.{◌≢◌}
 use mathlib.Core.List.{List}
-use Prim.Native.Nat.{ℕ, ◌-◌, ◌≤◌}
-use lib.ListN.{length, take, replicate, length-replicate}
-use Rattle.table.specs.Table.{Accepted}
+use Prim.Native.Nat.{ℕ}
+use lib.ListN.{length, replicate, length-replicate}
 use Rattle.table.specs.Flags.{max_points}
 use Rattle.text.proofs.Writing.{room-same, wrote-same}
 use Rattle.stored.specs.declared.TableRead.{TableRead}
 use Rattle.stored.specs.Reading.{read_answer}
 use Rattle.lines.specs.Lines.{fault_line}
-use Rattle.table_report.specs.Text.{table_text}
 use Rattle.report.specs.Report.{report_text}
 use Rattle.report.proofs.Answering.{read-refused, read_table, read-text, on_fits, free-fits}
 use Rattle.report.proofs.report_text.Goals as goal
