@@ -270,6 +270,7 @@ module _ (left right : List ℕ) (first : ℕ) where
       moved true e q r s l m (inl z) = elim (s.moves e) [ inl y ↦ inl (omega arith) | inr y ↦ inr (omega arith) ]
 
   goes-on-call : (p : ℕ) (cs : List Comparing) → GoesOn left right p cs → (c : Comparing) → Mem c cs → (returned c).refusal ≡ 0 → (c.left ≡ left) × (c.right ≡ right)
+  goes-on-call p [] u c h a = elim h [ ]
   goes-on-call p (b ∷ cs) u c (inl e) a =
       let k = u.0 (subst (λ (x : Comparing). (returned x).refusal ≡ 0) e a) in
       (ap (λ (x : Comparing). x.left) e ∙ k.0, ap (λ (x : Comparing). x.right) e ∙ k.1)

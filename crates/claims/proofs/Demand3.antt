@@ -203,6 +203,7 @@ reached-last t p [] c cs u e h =
 reached-last t p (b ∷ bs) c cs u e h = reached-last t (advance p b) bs c cs u.1 e h
 
 consecutive-table : (t : Table) (p : ℕ) (cs : List Call) → Consecutive t p cs → (c : Call) → Mem c cs → was_accepted c ≡ true → c.table ≡ t
+consecutive-table t p [] u c h a = elim h [ ]
 consecutive-table t p (b ∷ cs) u c (inl e) a = ap (λ (z : Call). z.table) e ∙ (u.0 (subst (λ (z : Call). was_accepted z ≡ true) e a)).0
 consecutive-table t p (b ∷ cs) u c (inr m) a = consecutive-table t (advance p b) cs u.1 c m a
 
@@ -225,6 +226,7 @@ module _ (t : Table) (a : Accepted t.variables t.on t.free) (six : t.variables �
       go (inr (inl k)) = ap (λ (x : Test). x.applies) k ∙ le-ltb max_listed c.table.variables (subst (λ (s : Table). s.variables ≤ max_listed) (sym e) six)
       go (inr (inr (inl k))) = ap (λ (x : Test). x.applies) k
           ∙ le-ltb (candidate_count c.table.variables) c.place (omega (arith, p, ap (λ (s : Table). candidate_count s.variables) e))
+      go (inr (inr (inr h))) = elim h [ ]
 
   at-the-end : (c : Call) → c.table ≡ t → c.place ≡ end_of t → AtEnd t c
   unfolding records_of keep flat_map
