@@ -30,13 +30,12 @@ use Rattle.subspaces.proofs.Spaces.{largest-sets}
 use Rattle.closure_set.specs.ClosureSet.{closure_set, largest_space}
 use Rattle.closure_set.proofs.ClosureSet.{closes-is, closure-mem, largest_space-is, spread-is}
 use Rattle.space.specs.Closure.{linear_space, degree}
-use Rattle.space.specs.Completion.{k0, k1, simply_completed, max_searched, completed, completed_points}
+use Rattle.space.specs.Completion.{k0, k1, max_searched, completed, completed_points}
 use Rattle.space.proofs.Completion.{Keeps, keeps-degree, simply-degree, completed-spread, completed-simply, completed-linear, completed-degree}
 use Rattle.lines.specs.Words.{variables_word}
 use Rattle.lines.specs.Lines.{number_line, counts_line}
 use Rattle.table_report.specs.Text.{is_simple, space_text, form_text, table_text}
 use Rattle.analysis.specs.declared.Completion.{Completion}
-use Rattle.analysis.specs.declared.LinearSpace.{LinearSpace}
 use Rattle.analysis.specs.Spaces.{complete_accepted, linear_space_answer}
 use Rattle.claims.specs.Demand2.{RoomsLent, Reported, reported, is_on, SpaceSays}
 use Rattle.claims.specs.FreePoints.{InClosureSet, SpaceInside, LargestSays, FreePoints}

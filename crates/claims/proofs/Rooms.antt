@@ -137,6 +137,7 @@ index-room form e = omega (arith, index-length (decode_form form), pow_mono (for
 
 -- A list that a function takes to members of another, each to another one, is no longer than that.
 without : {A : Type 0} (x : A) (l : List A) → Mem x l → (m : List A) × (length l ≡ suc (length m)) × ((y : A) → Mem y l → y ≢ x → Mem y m)
+without {A = A} x [] h = elim h [ ]
 without x (a ∷ l) (inl e) = (l, refl, λ y m n. elim m [ inl q ↦ absurd (n (q ∙ sym e)) | inr k ↦ k ])
 without x (a ∷ l) (inr h) = let r = without x l h in (a ∷ r.0, ap suc r.1, λ y m n. elim m [ inl q ↦ inl q | inr k ↦ inr (r.2 y k n) ])
 

@@ -10,7 +10,6 @@ use Rattle.basis.specs.Reduced.{vectors_of}
 use Rattle.cubes.specs.Cubes.{size}
 use Rattle.cubes.specs.Candidates.{Lexicographic}
 use Rattle.space.specs.Completion.{simply_completed}
-use Rattle.analysis.specs.declared.LinearSpace.{LinearSpace}
 use Rattle.analysis.specs.Spaces.{linear_space_answer}
 use Rattle.lines.specs.Words.{variables_word}
 use Rattle.lines.specs.Lines.{number_line, counts_line}
