@@ -1,7 +1,6 @@
 -- `glospruma::glospruma_index_build` meets its contract: that the list can be changed, and what the calls give, are laws of the crate `index` (its proofs/Calling.antt).
 -- Assumes nothing.
 use mathlib.Core.Path.{sym, ap, ◌∙◌, subst}
-use lib.ListN.{length}
 use Rattle.index.specs.declared.Indexed.{Indexed}
 use Rattle.index.specs.Changes.{Changes, updated, build_way}
 use Rattle.index.proofs.Calling.{build-answer, build-changes, build-list}
