@@ -105,6 +105,7 @@ fn first_of_degree(table: &[u64; ENTRY_COUNT], on: u64, m: usize, d: usize, x: u
 }
 
 // The first prime in listing order that holds x: degree falling.
+#[tactic(auto, using(crate::proofs::First::from_last))]
 fn first_holding(table: &[u64; ENTRY_COUNT], on: u64, m: usize, x: u16) -> Found
     requires table_value { table.now ≡ entries }
     requires search { Search m on m x }

@@ -183,6 +183,7 @@ fn flags_text(
 }
 
 // The degree is that of the simple way, and free points exist.
+#[tactic(auto, using(std::proofs::lemmas::Bool::Decides::nat_tests), unfolding(crate::specs::Text::is_simple))]
 fn is_simple(n: usize, free: &[u16]) -> bool
     ensures { result ≡ is_simple n free.now }
 {

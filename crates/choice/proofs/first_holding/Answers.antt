@@ -1,13 +1,12 @@
 -- `choice::first_holding` meets its contract: no prime of a greater degree holds the point. Assumes nothing.
 use mathlib.Core.Path.{refl, sym, ◌∙◌}
 use Prim.Native.Nat.{ℕ, ◌≤◌}
-use native.Mathlib.Nat.{pos_of_ne-zero}
 use native.Mathlib.Omega.{arith}
 use Rattle.cubes.specs.Candidates.{candidates}
 use Rattle.masks.specs.Points.{prime_by}
 use Rattle.bases.specs.Entry.{candidate_at}
 use Rattle.choice.specs.Search.{Search}
-use Rattle.choice.proofs.First.{from_found, from_next, from_last}
+use Rattle.choice.proofs.First.{from_found, from_next}
 use Rattle.choice.proofs.Taking.{found-one, found_none}
 use Rattle.choice.proofs.first_holding.Goals as goal
 
@@ -32,18 +31,11 @@ returns-then-found c =
       found_at = f.ensures.found_at;
     }
 
-pub returns-then-d-eq0 : goal.returns-then-d-eq0
-returns-then-d-eq0 c =
-    let a = c.args in
-    let l = c.loop-found in
-    let f = c.first_of_degree-found in
-    record { result_value = f.ensures.result_value ∙ from_last (prime_by a.m a.on 0) a.m a.x l.d c.if-d-eq0.true ∙ l.invariant.1; found_at = f.ensures.found_at }
-
 pub loop-found-preserved : goal.loop-found-preserved
 loop-found-preserved c =
     let a = c.args in
     let l = c.loop-found in
     let f = c.first_of_degree-found in (
       omega (arith, l.invariant.0),
-      sym (from_next (prime_by a.m a.on 0) a.m a.x l.d (pos_of_ne-zero c.if-d-eq0.false) (sym f.ensures.result_value ∙ found_none f.result c.if-found.false)) ∙ l.invariant.1,
+      sym (from_next (prime_by a.m a.on 0) a.m a.x l.d (omega arith) (sym f.ensures.result_value ∙ found_none f.result c.if-found.false)) ∙ l.invariant.1,
     )
