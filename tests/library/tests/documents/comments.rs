@@ -1,18 +1,19 @@
-//! Comments of the crates: every theorem that one quotes is there. A theorem's name
-//! is of small letters with a dash inside.
+//! Comments of the crates: every theorem that one quotes is there, and every other name
+//! of that form: small letters with a dash or an underscore inside.
 
+use crate::crates;
 use crate::names::{comments_in, defined_in};
 use crate::tables::quoted;
 use std::collections::BTreeSet;
 
-/// Theorems of the kit that comments quote.
-const KIT: [&str; 1] = ["gave-slice"];
+/// Words and theorems of the kit that comments quote.
+const KIT: [&str; 4] = ["flat_map", "get_or", "xor_lt", "xor_self"];
 
-/// Whether a word has the form of a theorem's name with a dash.
+/// Whether a word has the form of a theorem's name.
 fn is_theorem(word: &str) -> bool {
     let is_part =
         |part: &str| !part.is_empty() && part.chars().all(|letter| letter.is_ascii_lowercase());
-    word.contains('-') && word.split('-').all(is_part)
+    word.contains(['-', '_']) && word.split(['-', '_']).all(is_part)
 }
 
 /// The theorems of some comments that nothing defines, and of how many.
@@ -28,6 +29,7 @@ fn unknown(comments: &[String], names: &BTreeSet<String>) -> (Vec<String>, usize
 
 fn all_names() -> BTreeSet<String> {
     let mut names = defined_in("crates");
+    names.extend(crates::names());
     names.extend(KIT.map(str::to_string));
     names
 }

@@ -21,7 +21,10 @@ fn files_below(path: &Path) -> Vec<PathBuf> {
     match fs::read_dir(path) {
         Err(_) => vec![path.to_path_buf()],
         Ok(entries) => entries
-            .flat_map(|entry| files_below(&entry.expect("an entry of a folder").path()))
+            .map(|entry| entry.expect("an entry of a folder").path())
+            // What rt builds is not a file of the repository.
+            .filter(|path| !path.ends_with("out"))
+            .flat_map(|path| files_below(&path))
             .collect(),
     }
 }
