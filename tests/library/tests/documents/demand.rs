@@ -139,7 +139,10 @@ fn contracts_are_those_of_demand_1() {
     let (code, demand) = (read(CODE), read(DEMAND));
     assert_eq!(differing(&code, &demand), Vec::<String>::new());
     let contracts = contracts(&code);
-    assert_eq!(contracts.len(), code.matches("#[unsafe(no_mangle)]").count());
+    assert_eq!(
+        contracts.len(),
+        code.matches("#[unsafe(no_mangle)]").count()
+    );
     for (name, said) in &contracts {
         assert!(!said.returned.is_empty(), "{name}");
         // A contract with another term, in either place, is found.
