@@ -185,8 +185,8 @@ fn mark_prime(
 // The primes chosen for the complete function of m variables with these on points: covered points are marked, one flag to a point.
 pub fn choose(m: usize, on: &[u16]) -> Choice
     requires m_le_max_listed { m ≤ max_listed }
-    requires on_value { outside m on.now ≡ false }
-    requires on_value_2 { unordered on.now ≡ false }
+    requires on_inside { outside m on.now ≡ false }
+    requires on_rising { unordered on.now ≡ false }
     ensures { Chose m on.now result }
 {
     let table = bases::entries::table();

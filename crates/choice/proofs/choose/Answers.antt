@@ -22,7 +22,7 @@ use Rattle.choice.proofs.Taking.{primes-by, search-at, TakenTo, taken_start, tak
 use Rattle.choice.proofs.choose.Goals as goal
 
 pub mask_of-mask-requires : goal.mask_of-mask-requires
-mask_of-mask-requires c = outside-more c.args.m c.args.on.now c.requires.m_le_max_listed c.requires.on_value
+mask_of-mask-requires c = outside-more c.args.m c.args.on.now c.requires.m_le_max_listed c.requires.on_inside
 
 pub loop-i-init : goal.loop-i-init
 loop-i-init c = taken_start c.args.m c.args.on.now
@@ -37,20 +37,20 @@ flag_is {m} {on} {i} {flags} w h o l place q t e = sym (w.flagged (get_or on i 0
 
 pub bounds-flags-flag_place : goal.bounds-flags-flag_place
 bounds-flags-flag_place c =
-    omega (arith, c.flag_place.ensures, has-flag c.args.m c.args.on.now c.loop-i.i c.requires.m_le_max_listed c.requires.on_value c.loop-i-test.true)
+    omega (arith, c.flag_place.ensures, has-flag c.args.m c.args.on.now c.loop-i.i c.requires.m_le_max_listed c.requires.on_inside c.loop-i-test.true)
 
 pub loop-i-preserved-then-flags-flag_place : goal.loop-i-preserved-then-flags-flag_place
 loop-i-preserved-then-flags-flag_place c =
     let h = c.loop-i-test.true in
     taken-covered c.args.m c.args.on.now c.loop-i.i c.loop-i.flags c.loop-i.choice c.loop-i.invariant h
-    (flag_is c.loop-i.invariant c.requires.m_le_max_listed c.requires.on_value h c.flag_place.result c.flag_place.ensures true c.if-flags-flag_place.true)
+    (flag_is c.loop-i.invariant c.requires.m_le_max_listed c.requires.on_inside h c.flag_place.result c.flag_place.ensures true c.if-flags-flag_place.true)
 
 pub first_holding-found-requires : goal.first_holding-found-requires
 first_holding-found-requires c =
     let on = c.args.on.now in record {
       table_value = c.table-table.ensures;
-      search = search-at c.args.m on c.mask_of-mask.result (get_or on c.loop-i.i 0) c.requires.m_le_max_listed c.requires.on_value c.mask_of-mask.ensures
-          (inside-at c.args.m on c.requires.on_value c.loop-i.i c.loop-i-test.true);
+      search = search-at c.args.m on c.mask_of-mask.result (get_or on c.loop-i.i 0) c.requires.m_le_max_listed c.requires.on_inside c.mask_of-mask.ensures
+          (inside-at c.args.m on c.requires.on_inside c.loop-i.i c.loop-i-test.true);
     }
 
 -- What the search found is the first of the primes of the function.
@@ -64,13 +64,13 @@ loop-i-preserved-then-not-found c =
     let f = c.first_holding-found in
     let h = c.loop-i-test.true in
     taken-nothing a.m a.on.now l.i l.flags l.choice l.invariant h
-    (flag_is l.invariant c.requires.m_le_max_listed c.requires.on_value h c.flag_place.result c.flag_place.ensures false c.if-flags-flag_place.false) f.result
+    (flag_is l.invariant c.requires.m_le_max_listed c.requires.on_inside h c.flag_place.result c.flag_place.ensures false c.if-flags-flag_place.false) f.result
     (first a.m a.on.now c.mask_of-mask.result (get_or a.on.now l.i 0) (found_of f.result) c.mask_of-mask.ensures f.ensures.result_value)
     (not-true f.result.any c.if-not-found.true)
 
 pub add-choice-requires : goal.add-choice-requires
 add-choice-requires c =
-    omega (arith, c.loop-i.invariant.count, c.loop-i-test.true, few-points c.args.m c.args.on.now c.requires.m_le_max_listed c.requires.on_value c.requires.on_value_2)
+    omega (arith, c.loop-i.invariant.count, c.loop-i-test.true, few-points c.args.m c.args.on.now c.requires.m_le_max_listed c.requires.on_inside c.requires.on_rising)
 
 pub mark_prime-flags-requires : goal.mark_prime-flags-requires
 mark_prime-flags-requires c = let f = c.first_holding-found in f.ensures.found_at (not-false f.result.any c.if-not-found.false)
@@ -83,11 +83,11 @@ loop-i-preserved c =
     let h = c.loop-i-test.true in
     subst (TakenTo a.m a.on.now (l.i + 1) c.mark_prime-flags.result) (sym c.add-choice.ensures)
     (taken-one a.m a.on.now l.i l.flags l.choice l.invariant h
-    (flag_is l.invariant c.requires.m_le_max_listed c.requires.on_value h c.flag_place.result c.flag_place.ensures false c.if-flags-flag_place.false) f.result
+    (flag_is l.invariant c.requires.m_le_max_listed c.requires.on_inside h c.flag_place.result c.flag_place.ensures false c.if-flags-flag_place.false) f.result
     (first a.m a.on.now c.mask_of-mask.result (get_or a.on.now l.i 0) (found_of f.result) c.mask_of-mask.ensures f.ensures.result_value)
     (not-false f.result.any c.if-not-found.false) (f.ensures.found_at (not-false f.result.any c.if-not-found.false))
-    (omega (arith, l.invariant.count, h, few-points a.m a.on.now c.requires.m_le_max_listed c.requires.on_value c.requires.on_value_2)) c.mark_prime-flags.result c.mark_prime-flags.ensures)
+    (omega (arith, l.invariant.count, h, few-points a.m a.on.now c.requires.m_le_max_listed c.requires.on_inside c.requires.on_rising)) c.mark_prime-flags.result c.mark_prime-flags.ensures)
 
 pub returns : goal.returns
 returns c =
-    taken-end c.args.m c.args.on.now c.loop-i.i c.loop-i.flags c.loop-i.choice c.loop-i.invariant c.loop-i-test.false (few-points c.args.m c.args.on.now c.requires.m_le_max_listed c.requires.on_value c.requires.on_value_2)
+    taken-end c.args.m c.args.on.now c.loop-i.i c.loop-i.flags c.loop-i.choice c.loop-i.invariant c.loop-i-test.false (few-points c.args.m c.args.on.now c.requires.m_le_max_listed c.requires.on_inside c.requires.on_rising)

@@ -51,8 +51,8 @@ choose-requires c =
     let e = part a.n a.basis k c.requires.len_bound f c.leads-leads.result c.leads-leads.ensures c.count_kept-count.result c.count_kept-count.ensures (replicate max_chosen 0) c.write_kept.new.room c.write_kept.ensures in
     record {
       m_le_max_listed = c.requires.len_bound;
-      on_value = ap (outside (a.n - a.basis.len)) e ∙ points-inside k f;
-      on_value_2 = ap unordered e ∙ points-rise k f;
+      on_inside = ap (outside (a.n - a.basis.len)) e ∙ points-inside k f;
+      on_rising = ap unordered e ∙ points-rise k f;
     }
 
 pub returns : goal.returns
