@@ -5,7 +5,7 @@ usage: python3 tools/spell_names.py    at the top of the repository, once, after
 
 It goes by text, over crates/ (sources, definitions, proofs and must-fail edits): each word that begins with a small letter and holds a capital, as in
 `hasLead-lt`, is written with underscores, as in `has_lead-lt`. Names of Rust items, C names and strings hold no such words. Two definitions that are types get a
-capital. Names that would fall together with another name of the repository are told.
+capital, and in crate claims what bears the name of a call is spelled as the call. Names that would fall together with another name of the repository are told.
 """
 
 import os
@@ -20,6 +20,8 @@ APART = {
     "crates/form_calls/proofs/Valuing.antt": [("  pub product_at :", "  pub product_there :"), ("  product_at q", "  product_there q")],
     "crates/form_calls/proofs/form_at/Proof.antt": [("product_at", "product_there")],
 }
+# Fields and answers of crate claims that bear the name of a call are spelled as the call.
+CALLS = re.compile(r"(?<![\w'-])(?:linear-space|list-primes|write-form|form-points|form-rewrite|index-(?:build|append|remove)(?:-list)?)(?![\w'-])")
 STRING = re.compile(r'b?"(?:[^"\\]|\\.)*"')
 
 
@@ -54,6 +56,8 @@ def main():
                 new[word] = spelled(word)
             lines = [turned(line) if name.endswith(".rt") else WORD.sub(lambda m: spelled(m.group(0)), line) for line in text.split("\n")]
             done = "\n".join(lines)
+            if path.startswith("crates/claims/"):
+                done = CALLS.sub(lambda m: m.group(0).replace("-", "_"), done)
             if done != before:
                 with open(path, "w", encoding="utf-8") as f:
                     f.write(done)
