@@ -1,6 +1,5 @@
 -- The answer of a call on a linear space, refused and accepted, from what its code has found. Read next: crate `analysis`.
 use mathlib.Core.Path.{◌≡◌, sym, ap, ◌∙◌}
-use mathlib.Core.Bool.{Bool}
 use mathlib.Core.Logic.{◌≢◌}
 use mathlib.Core.List.{List, []}
 use Prim.Native.Nat.{ℕ}

@@ -1,19 +1,17 @@
 -- Laws of the first two passes: four numbers crossed after four others, and that the quarters, transformed, are the transform of the whole. Read next: the
 -- proofs of the functions.
-use mathlib.Core.Path.{◌≡◌, refl, sym, ap, ap₂, ◌∙◌}
+use mathlib.Core.Path.{◌≡◌, refl, ap₂, ◌∙◌}
 use mathlib.Core.Logic.{◌≢◌}
 use mathlib.Core.List.{List}
-use Prim.Native.Nat.{ℕ, zero, suc, ◌+◌, ◌*◌, ◌^◌, ◌≤◌, ◌<◌}
+use Prim.Native.Nat.{ℕ, ◌+◌, ◌*◌, ◌≤◌, ◌<◌}
 use native.Mathlib.Decide.{ℕ_discrete}
 use native.Mathlib.Omega.{arith}
 use lib.ListN.{length, set, length-set}
 use lib.Seq.{get_or-set_same, get_or-set_other}
-use lib.IntN.{ℤ, pos, nat_abs, ◌+ℤ◌, ◌-ℤ◌}
+use lib.IntN.{ℤ, pos, ◌+ℤ◌, ◌-ℤ◌}
 use mir.Syntax.{w64}
 use mir.Val.{SFits}
 use Rattle.walsh.specs.Numbers.{at, Summand, Summable, pair_crossed, four_crossed, PairCrossable, FourCrossable, PairCross, FourCross}
-use Rattle.walsh.specs.Walsh.{walsh}
-use Rattle.walsh.proofs.Walsh.{walsh-ext, walsh-lower, walsh-upper, walsh-none}
 use Rattle.walsh.proofs.Bounds.{sum-far, difference-far, fits}
 
 -- ---- sums of two and of four numbers fit

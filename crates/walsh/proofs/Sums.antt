@@ -1,12 +1,10 @@
 -- Laws of sums: term by term, of two sums, and over the points of one variable more by halves. Read next: Walsh.
 use mathlib.Core.Path.{◌≡◌, refl, sym, ap, ap₂, ◌∙◌}
-use mathlib.Core.Bool.{Bool}
-use Prim.Native.Nat.{ℕ, zero, suc, ◌+◌, ◌*◌, ◌^◌, ◌<◌}
+use Prim.Native.Nat.{ℕ, zero, suc, ◌+◌, ◌^◌, ◌<◌}
 use native.Mathlib.Nat.{add-suc, add-zero, lt-suc_self, one-mul, zero-add, zero-mul}
 use native.Mathlib.Omega.{arith}
-use lib.Pow.{pow_pos}
-use lib.Bits.{xor_block, xor_self, xor_zero_l, xor_zero_r}
-use lib.IntN.{ℤ, pos, neg_ℤ, ◌+ℤ◌, ◌-ℤ◌, +ℤ_assoc, +ℤ_idr, neg_ℤ-+ℤ}
+use lib.Bits.{xor_block}
+use lib.IntN.{ℤ, neg_ℤ, ◌+ℤ◌, ◌-ℤ◌, +ℤ_assoc, +ℤ_idr, neg_ℤ-+ℤ}
 use Rattle.gf2.specs.Bits.{◌⊕◌}
 use Rattle.walsh.specs.Sums.{total}
 use Rattle.walsh.proofs.Whole.{+ℤ-exchange}

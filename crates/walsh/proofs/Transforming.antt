@@ -1,11 +1,10 @@
 -- The transform pass by pass: with k variables left, each block of 2 ^ k numbers transforms to its part of the whole. Read next: the proofs of the
 -- functions.
-use mathlib.Core.Path.{◌≡◌, refl, sym, ap, ap₂, ◌∙◌, subst}
-use mathlib.Core.Logic.{◌⊎◌, inl, inr}
+use mathlib.Core.Path.{◌≡◌, refl, sym, ap, ◌∙◌, subst}
 use mathlib.Core.List.{List}
 use Prim.Native.Nat.{ℕ, zero, suc, ◌+◌, ◌-◌, ◌*◌, ◌/◌, ◌%◌, ◌^◌, ◌≤◌, ◌<◌}
 use native.Mathlib.Nat.{lt_of_not-le, mod-lt, add-mul, mul-add, mul_assoc, mul-le-mul_left, mul-le-mul_right, div-add-mod', one-mul, suc-mul, zero-add, zero-mul, zero-lt-suc}
-use native.Mathlib.Decide.{dec_le, ℕ_discrete}
+use native.Mathlib.Decide.{dec_le}
 use native.Mathlib.Omega.{arith}
 use lib.Pow.{pow_pos, pow_mono, pow-add}
 use lib.ListN.{length, get_or-eq_default}

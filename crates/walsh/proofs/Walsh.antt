@@ -1,12 +1,12 @@
 -- Laws of the transform: of numbers of one variable more it is the transform of their sums and of their differences, half a list apart; and the transform
 -- of the product of two transforms is 2 ^ n times the correlation, by induction over the variables. Read next: Bounds.
-use mathlib.Core.Path.{◌≡◌, refl, sym, ap, ap₂, ◌∙◌, subst}
-use mathlib.Core.Bool.{Bool, true, false}
-use Prim.Native.Nat.{ℕ, zero, suc, ◌+◌, ◌-◌, ◌*◌, ◌^◌, ◌≤◌, ◌<◌}
+use mathlib.Core.Path.{◌≡◌, sym, ap, ap₂, ◌∙◌, subst}
+use mathlib.Core.Bool.{Bool, true}
+use Prim.Native.Nat.{ℕ, zero, suc, ◌+◌, ◌-◌, ◌^◌, ◌≤◌, ◌<◌}
 use native.Mathlib.Nat.{lt_of_not-le, one-mul}
 use native.Mathlib.Decide.{dec_le}
 use native.Mathlib.Omega.{arith}
-use lib.Bits.{xor_lt, xor_shifted}
+use lib.Bits.{xor_shifted}
 use lib.IntN.{ℤ, pos, ◌+ℤ◌, ◌-ℤ◌, ◌*ℤ◌, one, +ℤ_idl, *ℤ_comm, *ℤ-one}
 use Rattle.gf2.specs.Bits.{◌⊕◌, ◌⊻◌, bit}
 use Rattle.gf2.specs.Parity.{odd}

@@ -1,6 +1,5 @@
 -- `walsh::cross_halves` meets its contract. The loop's invariant: the places below u and their fellows are crossed, the others as they were. Assumes
 -- nothing.
-use Prim.Native.Nat.{◌-◌}
 use native.Mathlib.Omega.{arith}
 use Rattle.walsh.proofs.Crossing.{halving-start, halving-crossable, halving-next}
 use Rattle.walsh.proofs.cross_halves.Goals as goal

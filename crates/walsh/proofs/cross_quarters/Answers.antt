@@ -1,6 +1,5 @@
 -- `walsh::cross_quarters` meets its contract. The loop's invariant: the places below u and their fellows are crossed, the others as they were. Assumes
 -- nothing.
-use Prim.Native.Nat.{◌-◌}
 use native.Mathlib.Omega.{arith}
 use Rattle.walsh.proofs.Crossing.{quartering-start, quartering-crossable, quartering-next}
 use Rattle.walsh.proofs.cross_quarters.Goals as goal
