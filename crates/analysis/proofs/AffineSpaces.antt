@@ -1,9 +1,9 @@
 -- The answer of `affine`, from the directions of the on points.
 use mathlib.Core.Path.{◌≡◌, refl, sym, ap, ap₂, ◌∙◌}
+use mathlib.Core.Bool.{true, false}
 use mathlib.Core.Logic.{◌≢◌}
 use mathlib.Core.List.{List, [], ◌∷◌}
 use Prim.Native.Nat.{ℕ, ◌<◌}
-use borrow.Author.Tests.{eq-eqb, ne_eqb}
 use lib.Dec.{eqb}
 use lib.ListN.{length, get_or, length-map}
 use Rattle.gf2.specs.Finite.{holds}
@@ -13,7 +13,7 @@ use Rattle.basis.specs.Reduced.{vectors_of, basis_of}
 use Rattle.basis.proofs.Values.{vectors-back}
 use Rattle.table.specs.Refusal.{test, first_fault, Numbered, affine_fault}
 use Rattle.table.specs.Table.{table_tests, table_fault}
-use Rattle.table.proofs.Refusal.{numbered}
+use Rattle.table.proofs.FirstFault.{numbered}
 use Rattle.table.proofs.Table.{table-numbered}
 use Rattle.table.proofs.Decide.{table-refused, then-applies, then-none, Ways, ways}
 use Rattle.space.specs.Restriction.{project}
@@ -31,13 +31,13 @@ module _ (n : ℕ) (on : List ℕ) where
   unfolding table_fault
   on-refused k e z = sym (table-refused (table_tests n on []) (test affine_fault (eqb (length on) 0) ∷ []) k (sym e) z)
 
-  pub on-empty : table_fault n on [] ≡ 0 → length on ≡ 0 → affine_fault ≡ first_fault (on_tests n on)
+  pub on-empty : table_fault n on [] ≡ 0 → eqb (length on) 0 ≡ true → affine_fault ≡ first_fault (on_tests n on)
   unfolding table_fault
-  on-empty e z = sym (then-applies (table_tests n on []) (table-numbered n on []) e affine_fault (eqb (length on) 0) (eq-eqb (length on) 0 z))
+  on-empty e z = sym (then-applies (table_tests n on []) (table-numbered n on []) e affine_fault (eqb (length on) 0) z)
 
-  pub on-passed : table_fault n on [] ≡ 0 → length on ≢ 0 → first_fault (on_tests n on) ≡ 0
+  pub on-passed : table_fault n on [] ≡ 0 → eqb (length on) 0 ≡ false → first_fault (on_tests n on) ≡ 0
   unfolding table_fault
-  on-passed e z = then-none (table_tests n on []) (table-numbered n on []) e affine_fault (eqb (length on) 0) (ne_eqb (length on) 0 z)
+  on-passed e z = then-none (table_tests n on []) (table-numbered n on []) e affine_fault (eqb (length on) 0) z
 
   -- Every point is projected.
   pub projected-all : length (affine_projection n on) ≡ length on

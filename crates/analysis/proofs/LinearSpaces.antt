@@ -17,7 +17,7 @@ use Rattle.table.proofs.Flags.{flags-at}
 use Rattle.space.specs.Closure.{closed, linear_space, degree}
 use Rattle.space.specs.Witness.{flagged}
 use Rattle.space.proofs.Closure.{linear-ext}
-use Rattle.analysis.specs.declared.LinearSpace.{LinearSpace}
+use Rattle.space_answer.specs.declared.LinearSpace.{LinearSpace}
 use Rattle.analysis.specs.Spaces.{linear_space_tests, linear_space_accepted, linear_space_refused, linear_space_answer}
 
 -- The flags of the on points stand for the function that is on at them.

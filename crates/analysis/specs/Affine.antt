@@ -2,7 +2,9 @@
 -- Read next: crate `claims`.
 use Rattle.std.specs.Prelude.{List, [], ◌∷◌, ◌++◌, ℕ, eqb, length}
 use Rattle.basis.specs.Reduced.{basis_of}
+use Rattle.table.specs.declared.Refusal.{Refusal}
 use Rattle.table.specs.Refusal.{Test, test, affine_fault}
+use Rattle.table.specs.Answers.{number_of}
 use Rattle.table.specs.Table.{table_tests}
 use Rattle.space.specs.Affine.{directions, least_point, projection}
 use Rattle.analysis.specs.declared.AffineSpace.{AffineSpace}
@@ -30,6 +32,10 @@ affine_accepted n on = record {
 
 abbrev pub affine_refused : ℕ → AffineSpace
 affine_refused number = record { refusal = number; least = 0; dimension = 0; basis = basis_of []; count = 0 }
+
+-- What `affine` gives for a refusal.
+abbrev pub refused_affine : Refusal → AffineSpace
+refused_affine refusal = affine_refused (number_of refusal)
 
 abbrev pub affine_call : ℕ → List ℕ → List ℕ → Decision AffineSpace
 affine_call n on room = record { tests = affine_tests n on room; accepted = affine_accepted n on; refused = affine_refused }

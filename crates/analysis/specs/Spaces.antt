@@ -4,12 +4,15 @@ use Rattle.gf2.specs.Basis.{canonical_places, variables_at}
 use Rattle.gf2.specs.Finite.{holds}
 use Rattle.basis.specs.Short.{short}
 use Rattle.basis.specs.Reduced.{basis_of}
+use Rattle.table.specs.declared.Refusal.{Refusal}
 use Rattle.table.specs.Refusal.{Test}
+use Rattle.table.specs.Answers.{number_of}
 use Rattle.table.specs.Table.{table_tests}
 use Rattle.space.specs.Closure.{linear_space, degree}
 use Rattle.space.specs.Completion.{completed, completed_points, k0, k1}
 use Rattle.space.specs.Restriction.{equations, restriction}
-use Rattle.analysis.specs.declared.LinearSpace.{LinearSpace}
+use Rattle.space_answer.specs.declared.LinearSpace.{LinearSpace}
+use Rattle.space_answer.specs.Answer.{space_tests, space_refused}
 use Rattle.analysis.specs.declared.Completion.{Completion}
 use Rattle.analysis.specs.declared.Analysis.{Analysis}
 use Rattle.table.specs.Decision.{Decision, answer_of, after_of, room_test}
@@ -18,13 +21,13 @@ use Rattle.table.specs.Decision.{Decision, answer_of, after_of, room_test}
 
 -- Refusals 1, 2 and 3. A call that takes on points alone has no free points, so that 4 never applies.
 abbrev pub linear_space_tests : ℕ → List ℕ → List Test
-linear_space_tests n on = table_tests n on []
+linear_space_tests n on = space_tests n on
 
 abbrev pub linear_space_accepted : ℕ → List ℕ → LinearSpace
 linear_space_accepted n on = record { refusal = 0; degree = degree n (holds on); basis = basis_of (linear_space n (holds on)) }
 
 abbrev pub linear_space_refused : ℕ → LinearSpace
-linear_space_refused number = record { refusal = number; degree = 0; basis = basis_of [] }
+linear_space_refused number = space_refused number
 
 abbrev pub linear_space_call : ℕ → List ℕ → Decision LinearSpace
 linear_space_call n on = record { tests = linear_space_tests n on; accepted = linear_space_accepted n on; refused = linear_space_refused }
@@ -48,6 +51,10 @@ complete_accepted n on free = record {
 
 abbrev pub complete_refused : ℕ → Completion
 complete_refused number = record { refusal = number; count = 0; degree = 0; k0 = 0; k1 = 0 }
+
+-- What `complete` gives for a refusal.
+abbrev pub refused_completion : Refusal → Completion
+refused_completion refusal = complete_refused (number_of refusal)
 
 abbrev pub complete_call : ℕ → List ℕ → List ℕ → List ℕ → Decision Completion
 complete_call n on free room = record { tests = complete_tests n on free room; accepted = complete_accepted n on free; refused = complete_refused }
@@ -83,6 +90,10 @@ analyse_accepted n on free = record {
 
 abbrev pub analyse_refused : ℕ → Analysis
 analyse_refused number = record { refusal = number; degree = 0; basis = basis_of []; canonical = short []; equations = short []; count = 0 }
+
+-- What `analyse` gives for a refusal.
+abbrev pub refused_analysis : Refusal → Analysis
+refused_analysis refusal = analyse_refused (number_of refusal)
 
 abbrev pub analyse_call : ℕ → List ℕ → List ℕ → List ℕ → Decision Analysis
 analyse_call n on free room = record { tests = analyse_tests n on free room; accepted = analyse_accepted n on free; refused = analyse_refused }

@@ -1,12 +1,15 @@
 -- Laws of the table by place: its bounds, and the entries of a number of vectors. Read next: LeadBits.
-use mathlib.Core.Path.{◌≡◌, refl, ap, ◌∙◌, subst}
+use mathlib.Core.Path.{◌≡◌, refl, sym, ap, ap₂, ◌∙◌, subst}
+use mathlib.Core.List.{List, [], ◌∷◌}
 use mathlib.Core.Bool.{true, ◌&&◌}
 use Prim.Native.Nat.{ℕ, ◌+◌, ◌-◌, ◌≤◌, ◌<◌}
 use native.Mathlib.Omega.{arith}
-use lib.Dec.{leb}
-use lib.ListN.{length, get_or, take}
+use lib.Dec.{leb, eqb}
+use lib.ListN.{length, get_or, take, drop}
+use borrow.Rule.Slice.PartMut.{mid_of}
 use lib.Seq.{length-slice, get_or-drop, get_or-take}
-use borrow.Author.Tests.{leb-true}
+use borrow.Author.Tests.{leb-true, eqb-true}
+use Rattle.std.proofs.lemmas.List.{drop-take}
 use Rattle.gf2.specs.Finite.{Mem, all}
 use Rattle.gf2.proofs.Logic.{and_l, and_r}
 use Rattle.gf2.proofs.Finite.{all-at, get_d-mem}
@@ -44,3 +47,45 @@ entry_at d i k l =
 pub entry-mem : (d i : ℕ) → d ≤ 6 → start d ≤ i → i < stop d → Mem (get_or entries i 0) (entries_of d)
 entry-mem d i h k l =
     subst (λ (z : ℕ). Mem z (entries_of d)) (entry_at d i k l) (get_d-mem (entries_of d) (i - start d) 0 (omega (arith, entries-count d h)))
+
+-- ---- the entries of a number of vectors as a part of the table, and by their index
+
+-- Where the entries of d vectors end, at place d.
+abbrev pub ends : List ℕ
+ends = 2825 ∷ 2824 ∷ 2761 ∷ 2110 ∷ 715 ∷ 64 ∷ 1 ∷ 0 ∷ []
+
+all-ends : all (λ d. eqb (get_or ends (d + 1) 0) (start d) && eqb (get_or ends d 0) (stop d)) 7 ≡ true
+unfolding all
+all-ends = refl
+
+pub ends-start : (d : ℕ) → d ≤ 6 → get_or ends (d + 1) 0 ≡ start d
+ends-start d h =
+    eqb-true (get_or ends (d + 1) 0) (start d)
+    (and_l (eqb (get_or ends (d + 1) 0) (start d)) (eqb (get_or ends d 0) (stop d)) (all-at (λ d. eqb (get_or ends (d + 1) 0) (start d) && eqb (get_or ends d 0) (stop d)) 7 all-ends d (omega arith)))
+
+pub ends-stop : (d : ℕ) → d ≤ 6 → get_or ends d 0 ≡ stop d
+ends-stop d h =
+    eqb-true (get_or ends d 0) (stop d)
+    (and_r (eqb (get_or ends (d + 1) 0) (start d)) (eqb (get_or ends d 0) (stop d)) (all-at (λ d. eqb (get_or ends (d + 1) 0) (start d) && eqb (get_or ends d 0) (stop d)) 7 all-ends d (omega arith)))
+
+-- The part of the table between two ends.
+pub part-entries : (d : ℕ) → d ≤ 6 → mid_of (get_or ends (d + 1) 0) (get_or ends d 0 - get_or ends (d + 1) 0) entries ≡ entries_of d
+unfolding entries_of
+part-entries d h =
+    let q : start d + (stop d - start d) ≡ stop d = omega (arith, (bounds d h).0) in
+    ap₂ (λ (a b : ℕ). mid_of a (b - a) entries) (ends-start d h) (ends-stop d h)
+    ∙ sym (drop-take (start d) (stop d - start d) entries) ∙ ap (λ (b : ℕ). drop (start d) (take b entries)) q
+
+module _ (part : List ℕ) (d k : ℕ) (six : d ≤ 6) (own : part ≡ entries_of d) where
+  pub part-below : k < length part → start d + k < stop d
+  part-below h = omega (arith, ap length own, entries-count d six)
+
+  -- The one at an index.
+  pub part-entry : k < length part → get_or part k 0 ≡ get_or entries (start d + k) 0
+  part-entry h =
+      let q : start d + k - start d ≡ k = omega arith in
+      ap₂ (λ (l : List ℕ) (i : ℕ). get_or l i 0) own (sym q) ∙ entry_at d (start d + k) (omega arith) (part-below h)
+
+  -- Beyond the last index stands the end of the entries.
+  pub part-end : k ≡ length part → start d + k ≡ stop d
+  part-end e = omega (arith, (bounds d six).0, ap length own, entries-count d six, e)

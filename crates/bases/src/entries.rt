@@ -5,8 +5,9 @@ ghost use Rattle.bases.specs.Entries.{entries};
 // The number of entries, as `entry_count` in specs/.
 pub const ENTRY_COUNT: usize = 2825;
 
-// The entries, as `entries` has them: in hexadecimal a byte to a vector, the first rightmost, and leftmost the lead bits.
-const ENTRIES: [u64; ENTRY_COUNT] = [
+// The entries, as `entries` has them: in hexadecimal a byte to a vector, the first rightmost, and leftmost the lead bits. A static is read where it
+// stands; a constant would be stored anew at each use.
+static ENTRIES: [u64; ENTRY_COUNT] = [
     0x3F201008040201,
     0x1F001008040201,
     0x2F002008040201,
@@ -2835,8 +2836,8 @@ const ENTRIES: [u64; ENTRY_COUNT] = [
 ];
 
 // The whole table, for a loop over its entries.
-pub fn table() -> [u64; ENTRY_COUNT]
-    ensures { result ≡ entries }
+pub fn table() -> &'static [u64; ENTRY_COUNT]
+    ensures { result.now ≡ entries }
 {
-    ENTRIES
+    &ENTRIES
 }

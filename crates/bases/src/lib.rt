@@ -6,25 +6,17 @@ pub mod entries;
 
 ghost use Rattle.std.specs.Prelude.{◌≡◌, ◌^◌, ◌≤◌, ◌<◌};
 ghost use Rattle.cubes.specs.Records.{max_listed};
-ghost use Rattle.bases.specs.Bases.{start, stop, fits_entry, avoided};
+ghost use Rattle.bases.specs.Bases.{entries_of, fits_entry, avoided};
 
-// Where the entries of d vectors begin and end.
-const STARTS: [usize; 7] = [2824, 2761, 2110, 715, 64, 1, 0];
+// Where the entries of d vectors end: at place d. They begin where those of one vector more end.
+static BOUNDS: [usize; 8] = [2825, 2824, 2761, 2110, 715, 64, 1, 0];
 
-const STOPS: [usize; 7] = [2825, 2824, 2761, 2110, 715, 64, 1];
-
-pub fn start_of(d: usize) -> usize
+// The entries of d vectors, in their order.
+pub fn entries_of(d: usize) -> &'static [u64]
     requires { d ≤ max_listed }
-    ensures { result ≡ start d }
+    ensures { result.now ≡ entries_of d }
 {
-    STARTS[d]
-}
-
-pub fn stop_of(d: usize) -> usize
-    requires { d ≤ max_listed }
-    ensures { result ≡ stop d }
-{
-    STOPS[d]
+    &entries::table()[BOUNDS[d + 1]..BOUNDS[d]]
 }
 
 // Whether the entry is a basis of n variables: its lead bits, which stand above its sixth byte, are bits of those.

@@ -9,10 +9,12 @@ use native.Mathlib.Omega.{arith}
 use lib.ListN.{length, take, drop, set, get_or, replicate, length-append, drop_of_length-le}
 use lib.Seq.{take-append_seam, set-append_seam, drop-cons, get_or-take}
 use Rattle.gf2.specs.Limits.{max_variables}
+use Rattle.gf2.specs.Bits.{lead}
 use Rattle.gf2.specs.Finite.{Mem, select}
 use Rattle.gf2.specs.Span.{Span}
 use Rattle.gf2.specs.Basis.{Reduced, insert, inserts}
 use Rattle.gf2.proofs.Finite.{get_d-mem, select-mem}
+use Rattle.gf2.proofs.Leads.{lead-fits}
 use Rattle.gf2.proofs.Reduce.{reduced-length, reduced-pos}
 use Rattle.gf2.proofs.Insert.{insert-reduced, insert-span, insert-below, inserts-reduced, inserts-below}
 use Rattle.basis.specs.declared.Basis.{Basis}
@@ -89,13 +91,28 @@ module _ (b : Basis) (k : IsBasis b) (i : ℕ) (h : i < b.len) where
   pub vector-pos : 0 < get_or b.vectors i 0
   vector-pos = reduced-pos (vectors_of b) k.reduced (get_or b.vectors i 0) vector-mem
 
-  -- The vectors from i on are the one at i and those behind it.
-  pub vector-next : drop i (vectors_of b) ≡ get_or b.vectors i 0 ∷ drop (i + 1) (vectors_of b)
-  vector-next = rw (add-one, drop-cons (vectors_of b) i 0 at, get_or-take b.len b.vectors i 0 h)
+-- ---- the vectors of a basis, as the list that `Basis::as_slice` gives
 
--- Past the last vector nothing is left.
-pub vector-end : (b : Basis) → IsBasis b → (i : ℕ) → b.len ≤ i → drop i (vectors_of b) ≡ []
-vector-end b k i h = drop_of_length-le (vectors_of b) {i = i} (omega (arith, basis-len b k))
+module _ (b : Basis) (k : IsBasis b) (vs : List ℕ) (e : vs ≡ vectors_of b) (i : ℕ) (h : i < length vs) where
+  pub item-mem : Mem (get_or vs i 0) (vectors_of b)
+  item-mem = subst (Mem (get_or vs i 0)) e (get_d-mem vs i 0 h)
+
+  pub item-pos : 0 < get_or vs i 0
+  item-pos = reduced-pos (vectors_of b) k.reduced (get_or vs i 0) item-mem
+
+  -- Its lead fits a place of a point.
+  pub item-lead : lead (get_or vs i 0) < max_variables
+  item-lead = lead-fits max_variables (get_or vs i 0) item-pos (k.below (get_or vs i 0) item-mem)
+
+  pub items-few : length vs ≤ max_variables
+  items-few = omega (arith, ap length e, basis-few b k)
+
+-- The vectors from i on are the one at i and those behind it; past the last one nothing is left.
+pub items-next : (vs : List ℕ) (i : ℕ) → i < length vs → drop i vs ≡ get_or vs i 0 ∷ drop (i + 1) vs
+items-next vs i h = rw (add-one, drop-cons vs i 0 h)
+
+pub items-end : (vs : List ℕ) (i : ℕ) → length vs ≤ i → drop i vs ≡ []
+items-end vs i h = drop_of_length-le vs {i = i} h
 
 -- ---- a vector put in
 

@@ -2,7 +2,7 @@
 // A basis is passed as `self` and handed back; `EMPTY` and `full(n)` are the named starting values. Read next: specs/Short.antt.
 #![tactic(auto)]
 
-ghost use Rattle.std.specs.Prelude.{◌≡◌, [], ◌∷◌, ◌++◌, ℕ, ◌+◌, ◌≤◌, ◌<◌, ◌^◌, min, max, length};
+ghost use Rattle.std.specs.Prelude.{◌≡◌, [], ◌∷◌, ◌++◌, ℕ, ◌+◌, ◌≤◌, ◌<◌, ◌^◌, length};
 ghost use Rattle.gf2.specs.Limits.{max_variables};
 ghost use Rattle.gf2.specs.Bits.{bit, index_of};
 ghost use Rattle.gf2.specs.Span.{Span};
@@ -12,7 +12,7 @@ ghost use Rattle.basis.specs.Reduced.{vectors_of, basis_of, IsBasis, Built, Join
 
 use gf2::MAX_VARIABLES;
 
-// At most MAX_VARIABLES numbers, and how many there are; unused entries are 0.
+// At most MAX_VARIABLES numbers, and how many there are; unused entries are 0. C reads it so, which is why the length stands beside the array.
 #[repr(C)]
 #[derive(Clone, Copy)]
 pub struct ShortList {
@@ -25,6 +25,14 @@ impl ShortList {
         values: [0; MAX_VARIABLES],
         len: 0,
     };
+
+    // The numbers of the list.
+    pub fn as_slice(&self) -> &[u16]
+        requires { self.now.len ≤ max_variables }
+        ensures { result.now ≡ listed self.now }
+    {
+        &self.values[..self.len]
+    }
 
     // The list with one number more at its end.
     pub fn push(self, v: u16) -> ShortList
@@ -42,24 +50,12 @@ impl ShortList {
     }
 }
 
-// A reduced basis: its vectors rising, and how many there are; unused entries are 0.
+// A reduced basis: its vectors rising, and how many there are; unused entries are 0. C reads it so, too.
 #[repr(C)]
 #[derive(Clone, Copy)]
 pub struct Basis {
     pub vectors: [u16; MAX_VARIABLES],
     pub len: usize,
-}
-
-fn smaller(a: u16, b: u16) -> u16
-    ensures { result ≡ min a b }
-{
-    if a < b { a } else { b }
-}
-
-fn larger(a: u16, b: u16) -> u16
-    ensures { result ≡ max a b }
-{
-    if a < b { b } else { a }
 }
 
 impl Basis {
@@ -75,12 +71,18 @@ impl Basis {
         ensures { Built result (units n) (λ (x : ℕ). x < 2 ^ n) }
     {
         let mut vectors = [0u16; MAX_VARIABLES];
-        let mut i = 0;
-        while i < n {
+        for i in 0..n {
             vectors[i] = 1 << i;
-            i += 1;
         }
         Basis { vectors, len: n }
+    }
+
+    // The vectors of the basis, rising.
+    pub fn as_slice(&self) -> &[u16]
+        requires { IsBasis self.now }
+        ensures { result.now ≡ vectors_of self.now }
+    {
+        &self.vectors[..self.len]
     }
 
     // The point with every lead bit cleared: the least point of its coset.
@@ -88,14 +90,9 @@ impl Basis {
         requires { IsBasis self }
         ensures { result ≡ reduce (vectors_of self) point }
     {
-        let vectors = self.vectors;
-        let len = self.len;
         let mut x = point;
-        let mut i = 0;
-        while i < len {
-            let b = vectors[i];
+        for &b in self.as_slice() {
             x = gf2::clear_lead(b, x);
-            i += 1;
         }
         x
     }
@@ -105,23 +102,17 @@ impl Basis {
         requires { Joins self r }
         ensures { result ≡ basis_of (join r (vectors_of self)) }
     {
-        let vectors = self.vectors;
-        let len = self.len;
         let mut out = ShortList::EMPTY;
         let mut carried = r;
-        let mut i = 0;
-        while i < len {
-            let b = vectors[i];
+        for &b in self.as_slice() {
             let cleared = gf2::clear_lead(r, b);
-            out = out.push(smaller(carried, cleared));
-            carried = larger(carried, cleared);
-            i += 1;
+            out = out.push(carried.min(cleared));
+            carried = carried.max(cleared);
         }
-        let whole = out.push(carried);
-        let joined = whole.values;
+        let ShortList { values, len } = out.push(carried);
         Basis {
-            vectors: joined,
-            len: whole.len,
+            vectors: values,
+            len,
         }
     }
 
@@ -151,15 +142,9 @@ impl Basis {
         requires { IsBasis self }
         ensures { result ≡ lead_mask (vectors_of self) }
     {
-        let vectors = self.vectors;
-        let len = self.len;
         let mut mask: u16 = 0;
-        let mut i = 0;
-        while i < len {
-            let b = vectors[i];
-            let place = gf2::lead(b);
-            mask = mask ^ (1 << place);
-            i += 1;
+        for &b in self.as_slice() {
+            mask ^= 1 << gf2::lead(b);
         }
         mask
     }
@@ -189,9 +174,7 @@ pub fn variables_of(mask: u16, n: usize) -> ShortList
     ensures { result ≡ short (variables_at n (places_at n (λ (k : ℕ). bit k mask))) }
 {
     let mut found = ShortList::EMPTY;
-    let mut k = n;
-    while k > 0 {
-        k -= 1;
+    for k in (0..n).rev() {
         if gf2::bit(k as u32, mask) {
             found = found.push(index_of(n, k));
         }

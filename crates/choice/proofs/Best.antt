@@ -1,9 +1,10 @@
 -- Laws of the best candidate so far: what one entry changes, one law for each way it can go, and that after all entries of a degree it is the first
 -- prime of that degree that holds the point. Read next: Taking.
-use mathlib.Core.Path.{◌≡◌, refl, sym, ap, ◌∙◌, subst}
+use mathlib.Core.Path.{◌≡◌, refl, sym, ap, ap₂, ◌∙◌, subst}
 use mathlib.Core.Bool.{Bool, true, false, not, cond, ◌&&◌}
 use mathlib.Core.Logic.{inl, inr}
 use mathlib.Core.List.{List, [], ◌∷◌, map}
+use Rattle.std.specs.Prelude.{Option, None, Some}
 use Prim.Native.Nat.{ℕ, ◌+◌, ◌-◌, ◌≤◌, ◌<◌}
 use native.Mathlib.Decide.{ℕ_discrete}
 use native.Mathlib.Omega.{arith}
@@ -11,7 +12,7 @@ use lib.Dec.{leb}
 use lib.ListN.{get_or}
 use borrow.Author.Tests.{leb-true, leb-false}
 use Rattle.gf2.specs.Finite.{Mem, Ordered}
-use Rattle.gf2.proofs.Logic.{clash, and-false, and_l, and_r}
+use Rattle.gf2.proofs.Logic.{clash, and-false}
 use Rattle.gf2.proofs.Finite.{map-mem, mem-map}
 use Rattle.table.proofs.Table.{refuted}
 use Rattle.product.proofs.Product.{ordered_at, mem-at}
@@ -29,14 +30,14 @@ use Rattle.bases.specs.Entry.{candidate_at, EntryAt}
 use Rattle.bases.proofs.Bounds.{bounds, entries-count, entry_at, entry-mem}
 use Rattle.bases.proofs.Entry.{vectors-length, entry-candidate}
 use Rattle.cover.specs.Choice.{first_holding}
-use Rattle.choice.specs.declared.Found.{Found}
-use Rattle.choice.specs.Search.{Search, found_of, FoundAt, least_point, stays, better_of}
+use Rattle.choice.specs.declared.Prime.{Prime}
+use Rattle.choice.specs.Search.{Search, PrimeAt, found_of, FoundAt, least_point, stays, better_of}
 use Rattle.choice.proofs.Reductions.{six, holding-entry, holding-point, holding-only}
 use Rattle.choice.proofs.First.{first-none, first-least}
 
 -- ---- one entry
 
-module _ (prime : Candidate → Bool) (m d x e : ℕ) (best : Found) where
+module _ (prime : Candidate → Bool) (m d x e : ℕ) (best : Option Prime) where
   pub better-wide : fits_entry m e ≡ false → best ≡ better_of prime m d x e best
   unfolding better_of
   better-wide h = rw h
@@ -54,7 +55,7 @@ module _ (prime : Candidate → Bool) (m d x e : ℕ) (best : Found) where
         rw (t, and-false (not (stays best (least_point d x e))), and-false (fits_entry m e))
 
     pub better-new : fits_entry m e ≡ true → stays best p ≡ false → prime (candidate_at d p e) ≡ true
-        → record { any = true; degree = d; point = p; entry = e } ≡ better_of prime m d x e best
+        → Some (record { degree = d; point = p; entry = e }) ≡ better_of prime m d x e best
     unfolding better_of
     better-new f s h =
         let t : stays best (least_point d x e) ≡ false = ap (stays best) (sym q) ∙ s in
@@ -112,7 +113,7 @@ held_at m d x h k b c q t =
 -- ---- all entries of a degree
 
 -- What has been found stands at a place before i.
-pub record FoundFrom (prime : Candidate → Bool) (m d x i : ℕ) (r : Found) : Type 0 where
+pub record FoundFrom (prime : Candidate → Bool) (m d x i : ℕ) (r : Prime) : Type 0 where
   pub place : ℕ
   pub low : start d ≤ place
   pub high : place < i
@@ -122,28 +123,32 @@ pub record FoundFrom (prime : Candidate → Bool) (m d x i : ℕ) (r : Found) : 
   pub fits : fits_entry m (at place) ≡ true
   pub passes : prime (holding d x place) ≡ true
 
+-- A prime has been found, and the candidate isn't earlier.
+abbrev Found : ℕ → Option Prime → Candidate → Type 0
+Found d r c = (p : Prime) × ((r ≡ Some p) × (Earlier c (candidate_at d p.point p.entry) → ⊥))
+
 -- r is the best of the places before i: where some candidate passes, r has been found, and none that passes is earlier.
-pub record Best (prime : Candidate → Bool) (m d x i : ℕ) (r : Found) : Type 0 where
+pub record Best (prime : Candidate → Bool) (m d x i : ℕ) (r : Option Prime) : Type 0 where
   pub low : start d ≤ i
   pub high : i ≤ stop d
-  pub found : r.any ≡ true → FoundFrom prime m d x i r
+  pub found : (p : Prime) → r ≡ Some p → FoundFrom prime m d x i p
   pub least : (j : ℕ) → start d ≤ j → j < i → fits_entry m (at j) ≡ true → prime (holding d x j) ≡ true
-      → (r.any ≡ true) × (Earlier (holding d x j) (candidate_at d r.point r.entry) → ⊥)
+      → (p : Prime) × ((r ≡ Some p) × (Earlier (holding d x j) (candidate_at d p.point p.entry) → ⊥))
 
-pub best-start : (prime : Candidate → Bool) (m d x : ℕ) → d ≤ 6 → (r : Found) → r.any ≡ false → Best prime m d x (start d) r
-best-start prime m d x h r e = record { low = omega arith; high = (bounds d h).0; found = λ a. clash a e; least = λ j l k. absurd (omega arith) }
+pub best-start : (prime : Candidate → Bool) (m d x : ℕ) → d ≤ 6 → Best prime m d x (start d) None
+best-start prime m d x h = record { low = omega arith; high = (bounds d h).0; found = λ p e. absurd (cc); least = λ j l k. absurd (omega arith) }
 
 earlier-not : (c : Candidate) → Earlier c c → ⊥
 earlier-not c (inl h) = omega arith
 earlier-not c (inr h) = lexicographic-not c.vectors c.vectors h.1 h.1
 
-module _ (prime : Candidate → Bool) (m d x i : ℕ) (six : d ≤ 6) (r : Found) (b : Best prime m d x i r) (more : i < stop d) where
-  kept : (fits_entry m (at i) ≡ true → prime (holding d x i) ≡ true → (r.any ≡ true) × (Earlier (holding d x i) (candidate_at d r.point r.entry) → ⊥))
+module _ (prime : Candidate → Bool) (m d x i : ℕ) (six : d ≤ 6) (r : Option Prime) (b : Best prime m d x i r) (more : i < stop d) where
+  kept : (fits_entry m (at i) ≡ true → prime (holding d x i) ≡ true → Found d r (holding d x i))
       → Best prime m d x (i + 1) r
   kept h = record {
     low = omega (arith, b.low);
     high = omega arith;
-    found = λ a. let f = b.found a in record {
+    found = λ p a. let f = b.found p a in record {
       place = f.place;
       low = f.low;
       high = omega (arith, f.high);
@@ -154,99 +159,131 @@ module _ (prime : Candidate → Bool) (m d x i : ℕ) (six : d ≤ 6) (r : Found
       passes = f.passes;
     };
     least = λ j l k f t. elim (ℕ_discrete j i) [
-      | yes q ↦ subst (λ (z : ℕ). (r.any ≡ true) × (Earlier (holding d x z) (candidate_at d r.point r.entry) → ⊥)) (sym q)
+      | yes q ↦ subst (λ (z : ℕ). Found d r (holding d x z)) (sym q)
           (h (subst (λ (z : ℕ). fits_entry m (at z) ≡ true) q f) (subst (λ (z : ℕ). prime (holding d x z) ≡ true) q t))
       | no q ↦ b.least j l (omega arith) f t
     ];
   }
 
   -- On equal least points the entry found before is earlier.
-  staying : stays r (least_point d x (at i)) ≡ true → (r.any ≡ true) × (Earlier (holding d x i) (candidate_at d r.point r.entry) → ⊥)
-  staying s =
-      let a = and_l r.any (leb r.point (least_point d x (at i))) s in
-      let l = leb-true r.point (least_point d x (at i)) (and_r r.any (leb r.point (least_point d x (at i))) s) in
-      let f = b.found a in (
-        a,
-        λ h. elim h [
-          | inl k ↦ omega arith
-          | inr k ↦ lexicographic-not (vectors_of d (at i)) (vectors_of d (at f.place)) (subst (λ (z : ℕ). Lexicographic (vectors_of d (at i)) (vectors_of d z)) f.entry k.1)
-              (places-ordered d f.place i six f.low f.high more)
-        ],
-      )
+  staying : stays r (least_point d x (at i)) ≡ true → Found d r (holding d x i)
+  staying = go r refl
+    where
+      go : (q : Option Prime) → r ≡ q → stays q (least_point d x (at i)) ≡ true → Found d r (holding d x i)
+      go None e s = absurd (cc)
+      go (Some p) e s =
+          let l = leb-true p.point (least_point d x (at i)) s in
+          let f = b.found p e in (
+            p,
+            (
+              e,
+              λ h. elim h [
+                | inl k ↦ omega arith
+                | inr k ↦ lexicographic-not (vectors_of d (at i)) (vectors_of d (at f.place)) (subst (λ (z : ℕ). Lexicographic (vectors_of d (at i)) (vectors_of d z)) f.entry k.1)
+                    (places-ordered d f.place i six f.low f.high more)
+              ],
+            ),
+          )
 
-  replaced : fits_entry m (at i) ≡ true → stays r (least_point d x (at i)) ≡ false → prime (holding d x i) ≡ true
-      → Best prime m d x (i + 1) (record { any = true; degree = d; point = least_point d x (at i); entry = at i })
+  abbrev new : Prime
+  new = record { degree = d; point = least_point d x (at i); entry = at i }
+
+  replaced : fits_entry m (at i) ≡ true → stays r (least_point d x (at i)) ≡ false → prime (holding d x i) ≡ true → Best prime m d x (i + 1) (Some new)
   replaced f s t = record {
     low = omega (arith, b.low);
     high = omega arith;
-    found = λ a. record { place = i; low = b.low; high = omega arith; degree = refl; entry = refl; point = refl; fits = f; passes = t };
+    found = λ p a. let q : new ≡ p = cc in
+        subst (FoundFrom prime m d x (i + 1)) q (record { place = i; low = b.low; high = omega arith; degree = refl; entry = refl; point = refl; fits = f; passes = t });
     least = λ j l k g u. (
-      refl,
-      elim (ℕ_discrete j i) [
-        | yes q ↦ subst (λ (z : ℕ). Earlier (holding d x z) (holding d x i) → ⊥) (sym q) (earlier-not (holding d x i))
-        | no q ↦ below j (b.least j l (omega arith) g u)
-      ],
+      new,
+      (
+        refl,
+        elim (ℕ_discrete j i) [
+          | yes q ↦ subst (λ (z : ℕ). Earlier (holding d x z) (holding d x i) → ⊥) (sym q) (earlier-not (holding d x i))
+          | no q ↦ below j (b.least j l (omega arith) g u)
+        ],
+      ),
     );
   }
     where
       -- The best so far was greater, and what is earlier would be less.
-      below : (j : ℕ) → (r.any ≡ true) × (Earlier (holding d x j) (candidate_at d r.point r.entry) → ⊥) → Earlier (holding d x j) (holding d x i) → ⊥
+      below : (j : ℕ) → Found d r (holding d x j) → Earlier (holding d x j) (holding d x i) → ⊥
       below j o h =
-          let z : leb r.point (least_point d x (at i)) ≡ false = sym (ap (λ (w : Bool). w && leb r.point (least_point d x (at i))) o.0) ∙ s in
-          let g = leb-false r.point (least_point d x (at i)) z in
-          o.1 (inl (elim h [ inl k ↦ omega arith | inr k ↦ omega (arith, k.0) ]))
+          let z : leb o.0.point (least_point d x (at i)) ≡ false = sym (ap (λ w. stays w (least_point d x (at i))) o.1.0) ∙ s in
+          let g = leb-false o.0.point (least_point d x (at i)) z in
+          o.1.1 (inl (elim h [ inl k ↦ omega arith | inr k ↦ omega (arith, k.0) ]))
 
   stepped : Best prime m d x (i + 1) (better_of prime m d x (at i) r)
   unfolding better_of
   stepped = go (fits_entry m (at i)) (stays r (least_point d x (at i))) (prime (holding d x i)) refl refl refl
     where
       go : (f s t : Bool) → fits_entry m (at i) ≡ f → stays r (least_point d x (at i)) ≡ s → prime (holding d x i) ≡ t
-          → Best prime m d x (i + 1) (cond (f && (not s && t)) (record { any = true; degree = d; point = least_point d x (at i); entry = at i }) r)
+          → Best prime m d x (i + 1) (cond (f && (not s && t)) (Some new) r)
       go false s t qf qs qt = kept (λ f. clash f qf)
       go true true t qf qs qt = kept (λ f u. staying qs)
       go true false false qf qs qt = kept (λ f u. clash u qt)
       go true false true qf qs qt = replaced qf qs qt
 
   -- One place more.
-  pub best-step : (e : ℕ) → e ≡ at i → (u : Found) → u ≡ better_of prime m d x e r → Best prime m d x (i + 1) u
+  pub best-step : (e : ℕ) → e ≡ at i → (u : Option Prime) → u ≡ better_of prime m d x e r → Best prime m d x (i + 1) u
   best-step e q u w = subst (Best prime m d x (i + 1)) (sym (w ∙ ap (λ (z : ℕ). better_of prime m d x z r) q)) stepped
 
 -- ---- the first of a degree
 
-module _ {m on d x : ℕ} (s : Search m on d x) (prime : Candidate → Bool) (r : Found) (b : Best prime m d x (stop d) r) where
-  entry_of : (f : FoundFrom prime m d x (stop d) r) → EntryAt m d (least_point d x (at f.place)) (at f.place)
+same-entry : (m d p e : ℕ) (r : Prime) → r.degree ≡ d → r.point ≡ p → r.entry ≡ e → EntryAt m d p e → PrimeAt m r
+same-entry m d p e r a b c k = rw (a, b, c) k
+
+module _ {m on d x : ℕ} (s : Search m on d x) (prime : Candidate → Bool) (r : Option Prime) (b : Best prime m d x (stop d) r) where
+  entry_of : {p : Prime} (f : FoundFrom prime m d x (stop d) p) → EntryAt m d (least_point d x (at f.place)) (at f.place)
   entry_of f = holding-entry s (at f.place) (entry-mem d f.place (six s) f.low f.high) f.fits
 
   pub best-entry : FoundAt m r
-  best-entry a = let f = b.found a in rw (f.degree, f.entry, f.point) (entry_of f)
+  best-entry = go r refl
+    where
+      go : (q : Option Prime) → r ≡ q → FoundAt m q
+      go None e = tt
+      go (Some p) e = let f = b.found p e in same-entry m d (least_point d x (at f.place)) (at f.place) p f.degree f.point f.entry (entry_of f)
 
   -- Where one passes, something was found, and it isn't before what was found.
-  passing : (c : Candidate) → Mem c (keep prime (candidates_of m d)) → points_of c x ≡ true → (r.any ≡ true) × (Before c (candidate_at d r.point r.entry) → ⊥)
+  passing : (c : Candidate) → Mem c (keep prime (candidates_of m d)) → points_of c x ≡ true
+      → (p : Prime) × ((r ≡ Some p) × (Before c (candidate_at d p.point p.entry) → ⊥))
   passing c k t =
       let o = keep-mem prime (candidates_of m d) c k in
       let g = degree-sound m d c o.0 in
       let h = held_at m d x s.few (six s) c g.0 g.1 t in
       let l = b.least h.place h.low h.high h.fits (subst (λ z. prime z ≡ true) h.same o.1) in (
         l.0,
-        λ z. elim z [
-          | inl w ↦ omega (arith, g.1, vectors-length d r.entry)
-          | inr w ↦ l.1 (subst (λ y. Earlier y (candidate_at d r.point r.entry)) h.same w.1)
-        ],
+        (
+          l.1.0,
+          λ z. elim z [
+            | inl w ↦ omega (arith, g.1, vectors-length d l.0.entry)
+            | inr w ↦ l.1.1 (subst (λ y. Earlier y (candidate_at d l.0.point l.0.entry)) h.same w.1)
+          ],
+        ),
       )
+
+  passing-not : (p : Prime) → r ≡ Some p → (c : Candidate) → Mem c (keep prime (candidates_of m d)) → points_of c x ≡ true → Before c (candidate_at d p.point p.entry) → ⊥
+  passing-not p e c k t =
+      let y = passing c k t in
+      let q : y.0 ≡ p = cc (y.1.0) in
+      subst (λ (z : Prime). Before c (candidate_at d z.point z.entry) → ⊥) q y.1.1
 
   pub best-first : found_of r ≡ first_holding (keep prime (candidates_of m d)) x
   unfolding found_of
-  best-first = go r.any refl
+  best-first = go r refl
     where
-      go : (t : Bool) → r.any ≡ t → cond t (candidate_at r.degree r.point r.entry ∷ []) [] ≡ first_holding (keep prime (candidates_of m d)) x
-      go false a = sym (first-none (keep prime (candidates_of m d)) x (λ c k. refuted (points_of c x) (λ t. clash (passing c k t).0 a)))
-      go true a =
-          let f = b.found a in
+      nothing : r ≡ None → (c : Candidate) → Mem c (keep prime (candidates_of m d)) → points_of c x ≡ true → ⊥
+      nothing a c k t = let y = passing c k t in cc (y.1.0)
+
+      go : (q : Option Prime) → r ≡ q → found_of q ≡ first_holding (keep prime (candidates_of m d)) x
+      go None a = sym (first-none (keep prime (candidates_of m d)) x (λ c k. refuted (points_of c x) (nothing a c k)))
+      go (Some p) a =
+          let f = b.found p a in
           let c = holding d x f.place in
-          let e : candidate_at d r.point r.entry ≡ c = rw (f.entry, f.point) in
+          let e : candidate_at d p.point p.entry ≡ c = ap₂ (λ (z y : ℕ). candidate_at d z y) f.point f.entry in
           let k : Mem c (candidates_of m d) =
           subst (λ (z : ℕ). Mem c (candidates_of m z)) (vectors-length d (at f.place)) (degree-complete m c (entry-candidate (entry_of f))) in
-          ap (λ (z : ℕ). candidate_at z r.point r.entry ∷ []) f.degree ∙ ap (λ z. z ∷ []) e
+          ap (λ (z : ℕ). candidate_at z p.point p.entry ∷ []) f.degree ∙ ap (λ z. z ∷ []) e
           ∙ sym (first-least Before (keep prime (candidates_of m d)) (ordered-keep Before prime (candidates_of m d) (degree-ordered m d)) x c
           (mem-keep prime (candidates_of m d) c k f.passes) (holding-point s (at f.place) (entry-mem d f.place (six s) f.low f.high))
-          (λ z i t w. (passing z i t).1 (subst (Before z) (sym e) w)))
+          (λ z i t w. passing-not p a z i t (subst (Before z) (sym e) w)))

@@ -4,14 +4,15 @@ use mathlib.Core.Path.{◌≡◌, refl, sym, ap, ◌∙◌}
 use mathlib.Core.Bool.{Bool, true, false, cond}
 use mathlib.Core.Logic.{inl, inr}
 use mathlib.Core.List.{List, [], ◌∷◌, ◌++◌}
-use Prim.Native.Nat.{ℕ, zero, suc, ◌-◌, ◌<◌}
+use Prim.Native.Nat.{ℕ, zero, suc, ◌+◌}
+use native.Mathlib.Numerals.{add-one}
 use native.Mathlib.Omega.{arith}
 use lib.ListN.{length}
 use Rattle.gf2.specs.Finite.{Mem, Ordered}
 use Rattle.table.proofs.Table.{refuted}
 use Rattle.cubes.specs.Lists.{keep}
 use Rattle.cubes.specs.Cubes.{Candidate, points_of}
-use Rattle.cubes.specs.Candidates.{candidates_of, candidates_from}
+use Rattle.cubes.specs.Candidates.{candidates_of, candidates_from, candidates}
 use Rattle.cubes.proofs.Lists.{keep_append}
 use Rattle.cover.specs.Choice.{first_holding}
 
@@ -58,14 +59,28 @@ module _ (t : Candidate → Bool) (m x : ℕ) where
       ap (λ l. first_holding l x) (keep_append t (candidates_of m (suc d)) (candidates_from m d))
       ∙ first-front (keep t (candidates_of m (suc d))) (keep t (candidates_from m d)) x c e
 
-  pub from_next : (d : ℕ) → 0 < d → first_holding (keep t (candidates_of m d)) x ≡ [] → first_holding (keep t (candidates_from m d)) x ≡ first_holding (keep t (candidates_from m (d - 1))) x
-  unfolding candidates_from
-  from_next zero h e = absurd (omega arith)
-  from_next (suc d) h e =
-      let q : d ≡ suc d - 1 = omega arith in
-      ap (λ l. first_holding l x) (keep_append t (candidates_of m (suc d)) (candidates_from m d))
-      ∙ first-append (keep t (candidates_of m (suc d))) (keep t (candidates_from m d)) x e ∙ ap (λ (z : ℕ). first_holding (keep t (candidates_from m z)) x) q
+-- The candidates of less than degree k.
+unfoldable pub lower : ℕ → ℕ → List Candidate
+lower m zero = []
+lower m (suc d) = candidates_from m d
 
-  pub from_last : (d : ℕ) → d ≡ 0 → first_holding (keep t (candidates_of m d)) x ≡ first_holding (keep t (candidates_from m d)) x
-  unfolding candidates_from
-  from_last d e = rw e
+module _ (t : Candidate → Bool) (m x : ℕ) where
+  pub lower_found : (d : ℕ) (c : Candidate) → first_holding (keep t (candidates_of m d)) x ≡ c ∷ [] → first_holding (keep t (lower m (d + 1))) x ≡ c ∷ []
+  unfolding lower
+  lower_found d c e = rw (add-one) (from_found t m x d c e)
+
+  pub lower_next : (d : ℕ) → first_holding (keep t (candidates_of m d)) x ≡ [] → first_holding (keep t (lower m (d + 1))) x ≡ first_holding (keep t (lower m d)) x
+  unfolding candidates_from lower keep first_holding
+  lower_next zero e = e
+  lower_next (suc d) e =
+      rw (add-one)
+      (ap (λ l. first_holding l x) (keep_append t (candidates_of m (suc d)) (candidates_from m d))
+      ∙ first-append (keep t (candidates_of m (suc d))) (keep t (candidates_from m d)) x e)
+
+  pub lower_none : first_holding (keep t (lower m 0)) x ≡ []
+  unfolding lower keep first_holding
+  lower_none = refl
+
+  pub lower_all : first_holding (keep t (lower m (m + 1))) x ≡ first_holding (keep t (candidates m)) x
+  unfolding lower candidates
+  lower_all = rw (add-one) refl

@@ -1,6 +1,6 @@
 -- Laws of what is taken: the flags of the points that a prime holds, a prime put behind the others, and the points gone through one after the other.
 -- Read next: Products.
-use mathlib.Core.Path.{◌≡◌, refl, sym, ap, ap₂, ◌∙◌, fun_ext}
+use mathlib.Core.Path.{◌≡◌, refl, sym, ap, ap₂, ◌∙◌, fun_ext, subst}
 use mathlib.Core.Bool.{Bool, true, false, ◌&&◌, ◌||◌, or-false, or-true}
 use mathlib.Core.List.{List, [], ◌∷◌, ◌++◌}
 use Prim.Native.Nat.{ℕ, zero, suc, ◌+◌, ◌^◌, ◌≤◌, ◌<◌}
@@ -30,20 +30,10 @@ use Rattle.bases.proofs.Entry.{entry-candidate}
 use Rattle.cover.specs.Choice.{primes_of, covered, first_holding, taken_through, chosen}
 use Rattle.cover.proofs.Primes.{points-coset}
 use Rattle.cover.proofs.Steps.{through-covered, through-none, through-taken, covered_next}
-use Rattle.choice.specs.declared.Found.{Found}
+use Rattle.choice.specs.declared.Prime.{Prime}
 use Rattle.choice.specs.declared.Choice.{Choice}
-use Rattle.choice.specs.Search.{Search, found_of}
-use Rattle.choice.specs.Chosen.{max_chosen, chosen_by, added, MarksPrime, Chose}
-
--- ---- what is found, as a list
-
-pub found-one : (r : Found) → r.any ≡ true → found_of r ≡ candidate_at r.degree r.point r.entry ∷ []
-unfolding found_of
-found-one r e = rw e
-
-pub found_none : (r : Found) → r.any ≡ false → found_of r ≡ []
-unfolding found_of
-found_none r e = rw e
+use Rattle.choice.specs.Search.{Search, candidate_of, PrimeAt}
+use Rattle.choice.specs.Chosen.{max_chosen, no_prime, prime_in, chosen_by, added, MarksPrime, Chose}
 
 -- ---- the flags
 
@@ -93,27 +83,26 @@ marked-end {m} {d} {p} {e} k flags r x h w y l =
 
 -- ---- a prime put behind the others
 
-module _ (r : Choice) (d p e : ℕ) where
+module _ (r : Choice) (p : Prime) where
   -- Those before it stand as they were.
-  kept_by : (k : ℕ) → k ≤ r.count → chosen_by (added r d p e) k ≡ chosen_by r k
+  kept_by : (k : ℕ) → k ≤ r.count → chosen_by (added r p) k ≡ chosen_by r k
   unfolding chosen_by
   kept_by zero h = refl
   kept_by (suc k) h =
       let n : k ≡ r.count → ⊥ = λ q. omega arith in
-      rw (kept_by k (omega arith), get_or-set_other r.degrees r.count k d 0 n, get_or-set_other r.points r.count k p 0 n, get_or-set_other r.entries r.count k e 0 n)
+      rw (kept_by k (omega arith), get_or-set_other r.primes r.count k p no_prime n)
 
-  module _ (hd : r.count < length r.degrees) (hp : r.count < length r.points) (he : r.count < length r.entries) where
-    pub added-by : chosen_by (added r d p e) (r.count + 1) ≡ chosen_by r r.count ++ (candidate_at d p e ∷ [])
+  module _ (h : r.count < length r.primes) where
+    pub added-by : chosen_by (added r p) (r.count + 1) ≡ chosen_by r r.count ++ (candidate_of p ∷ [])
     unfolding chosen_by
     added-by =
-        ap (chosen_by (added r d p e)) (add-one r.count) ∙ ap₂ (λ l c. l ++ (c ∷ [])) (kept_by r.count (omega arith))
-        (rw (get_or-set_same r.degrees r.count d 0 hd, get_or-set_same r.points r.count p 0 hp, get_or-set_same r.entries r.count e 0 he))
+        ap (chosen_by (added r p)) (add-one r.count)
+        ∙ ap₂ (λ l c. l ++ (c ∷ [])) (kept_by r.count (omega arith)) (ap candidate_of (get_or-set_same r.primes r.count p no_prime h))
 
-    pub added-entry : (m : ℕ) → ((k : ℕ) → k < r.count → EntryAt m (get_or r.degrees k 0) (get_or r.points k 0) (get_or r.entries k 0)) → EntryAt m d p e
-        → (k : ℕ) → k < r.count + 1 → EntryAt m (get_or (set r.degrees r.count d) k 0) (get_or (set r.points r.count p) k 0) (get_or (set r.entries r.count e) k 0)
-    added-entry m f g k h = elim (ℕ_discrete k r.count) [
-      | yes q ↦ rw (q, get_or-set_same r.degrees r.count d 0 hd, get_or-set_same r.points r.count p 0 hp, get_or-set_same r.entries r.count e 0 he) g
-      | no q ↦ rw (get_or-set_other r.degrees r.count k d 0 q, get_or-set_other r.points r.count k p 0 q, get_or-set_other r.entries r.count k e 0 q) (f k (omega arith))
+    pub added-entry : (m : ℕ) → ((k : ℕ) → k < r.count → PrimeAt m (prime_in r k)) → PrimeAt m p → (k : ℕ) → k < r.count + 1 → PrimeAt m (prime_in (added r p) k)
+    added-entry m f g k l = elim (ℕ_discrete k r.count) [
+      | yes q ↦ subst (PrimeAt m) (sym (ap (λ (z : ℕ). prime_in (added r p) z) q ∙ get_or-set_same r.primes r.count p no_prime h)) g
+      | no q ↦ subst (PrimeAt m) (sym (get_or-set_other r.primes r.count k p no_prime q)) (f k (omega arith))
     ]
 
 -- ---- the points gone through
@@ -126,28 +115,22 @@ primes-by m on mask h = ap₂ (λ (f g : ℕ → Bool). keep (is_prime m f g) (c
 pub search-at : (m : ℕ) (on : List ℕ) (mask x : ℕ) → m ≤ 6 → outside m on ≡ false → MaskOf on mask → x < 2 ^ m → Search m mask m x
 search-at m on mask x h o w l = record { few = h; inside = λ y t. inside m on o y ((holds-mem on y).0 (sym (w y) ∙ t)); short = omega arith; point = l }
 
--- The lists of the choice have a place for each prime.
-pub record Long (r : Choice) : Type 0 where
-  pub degrees : length r.degrees ≡ max_chosen
-  pub points : length r.points ≡ max_chosen
-  pub entries : length r.entries ≡ max_chosen
-
 -- The points before place i have been gone through: the choice so far goes on to what is chosen, and the flags set are those of the points covered.
 pub record TakenTo (m : ℕ) (on : List ℕ) (i : ℕ) (flags : List Bool) (r : Choice) : Type 0 where
   pub upto : i ≤ length on
   pub same : taken_through (primes_of m on) (chosen_by r r.count) (drop i on) ≡ chosen m on
   pub count : r.count ≤ i
-  pub long : Long r
+  pub long : length r.primes ≡ max_chosen
   pub flagged : (y : ℕ) → y < max_points → get_or flags y false ≡ covered (chosen_by r r.count) y
-  pub entry : (k : ℕ) → k < r.count → EntryAt m (get_or r.degrees k 0) (get_or r.points k 0) (get_or r.entries k 0)
+  pub entry : (k : ℕ) → k < r.count → PrimeAt m (prime_in r k)
 
-pub taken_start : (m : ℕ) (on : List ℕ) → TakenTo m on 0 (replicate max_points false) (record { count = 0; degrees = replicate max_chosen 0; points = replicate max_chosen 0; entries = replicate max_chosen 0 })
+pub taken_start : (m : ℕ) (on : List ℕ) → TakenTo m on 0 (replicate max_points false) (record { count = 0; primes = replicate max_chosen no_prime })
 unfolding chosen covered chosen_by
 taken_start m on = record {
   upto = omega arith;
   same = refl;
   count = omega arith;
-  long = record { degrees = refl; points = refl; entries = refl };
+  long = refl;
   flagged = λ y h. get_or-replicate max_points y false false h;
   entry = λ k h. absurd (omega arith);
 }
@@ -173,30 +156,24 @@ module _ (m : ℕ) (on : List ℕ) (i : ℕ) (flags : List Bool) (r : Choice) (w
   pub taken-covered : covered so_far (get_or on i 0) ≡ true → TakenTo m on (i + 1) flags r
   taken-covered t = unchanged (through-covered (primes_of m on) so_far (get_or on i 0) (drop (i + 1) on) t)
 
-  module _ (t : covered so_far (get_or on i 0) ≡ false) (f : Found) (q : found_of f ≡ first_holding (primes_of m on) (get_or on i 0)) where
-    pub taken-nothing : f.any ≡ false → TakenTo m on (i + 1) flags r
-    taken-nothing a = unchanged (through-none (primes_of m on) so_far (get_or on i 0) (drop (i + 1) on) t (sym q ∙ found_none f a))
+  module _ (t : covered so_far (get_or on i 0) ≡ false) where
+    pub taken-nothing : [] ≡ first_holding (primes_of m on) (get_or on i 0) → TakenTo m on (i + 1) flags r
+    taken-nothing q = unchanged (through-none (primes_of m on) so_far (get_or on i 0) (drop (i + 1) on) t (sym q))
 
-    pub taken-one : f.any ≡ true → EntryAt m f.degree f.point f.entry → r.count < max_chosen
-        → (u : List Bool) → MarksPrime (candidate_at f.degree f.point f.entry) flags u → TakenTo m on (i + 1) u (added r f.degree f.point f.entry)
-    taken-one a k room u marks =
-        let hd : r.count < length r.degrees = omega (arith, w.long.degrees) in
-        let hp : r.count < length r.points = omega (arith, w.long.points) in
-        let he : r.count < length r.entries = omega (arith, w.long.entries) in
-        let b = added-by r f.degree f.point f.entry hd hp he in
-        let c = candidate_at f.degree f.point f.entry in record {
+    pub taken-one : (p : Prime) → candidate_of p ∷ [] ≡ first_holding (primes_of m on) (get_or on i 0) → PrimeAt m p → r.count < max_chosen
+        → (u : List Bool) → MarksPrime (candidate_of p) flags u → TakenTo m on (i + 1) u (added r p)
+    taken-one p q k room u marks =
+        let long : r.count < length r.primes = omega (arith, w.long) in
+        let b = added-by r p long in
+        let c = candidate_of p in record {
           upto = omega arith;
           same = ap (λ l. taken_through (primes_of m on) l (drop (i + 1) on)) b
-              ∙ sym (through-taken (primes_of m on) so_far (get_or on i 0) (drop (i + 1) on) c t (sym q ∙ found-one f a))
+              ∙ sym (through-taken (primes_of m on) so_far (get_or on i 0) (drop (i + 1) on) c t (sym q))
               ∙ ap (taken_through (primes_of m on) so_far) (sym next) ∙ w.same;
           count = omega (arith, w.count);
-          long = record {
-            degrees = length-set r.degrees r.count f.degree ∙ w.long.degrees;
-            points = length-set r.points r.count f.point ∙ w.long.points;
-            entries = length-set r.entries r.count f.entry ∙ w.long.entries;
-          };
+          long = length-set r.primes r.count p ∙ w.long;
           flagged = λ y l. marks y l ∙ ap (λ (z : Bool). z || points_of c y) (w.flagged y l) ∙ sym (covered_next so_far c y) ∙ ap (λ z. covered z y) (sym b);
-          entry = added-entry r f.degree f.point f.entry hd hp he m w.entry k;
+          entry = added-entry r p long m w.entry k;
         }
 
 -- A function of m variables has at most 2 ^ m on points, so that the places are enough.

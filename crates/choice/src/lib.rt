@@ -3,7 +3,7 @@
 // of their results in specs/, the laws about that in proofs/. Read next: specs/Search.antt.
 #![tactic(auto)]
 
-ghost use Rattle.std.specs.Prelude.{◌≡◌, false, ◌&&◌, ◌≤◌, ◌<◌, leb};
+ghost use Rattle.std.specs.Prelude.{◌≡◌, false, ◌≤◌, ◌<◌, length};
 ghost use Rattle.gf2.specs.Finite.{Mem};
 ghost use Rattle.gf2.specs.Basis.{reduce};
 ghost use Rattle.table.specs.Table.{outside, unordered};
@@ -11,15 +11,12 @@ ghost use Rattle.cubes.specs.Lists.{keep};
 ghost use Rattle.cubes.specs.Cubes.{points_of};
 ghost use Rattle.cubes.specs.Candidates.{candidates_of, candidates};
 ghost use Rattle.cubes.specs.Records.{max_listed};
-ghost use Rattle.bases.specs.Entries.{entries};
 ghost use Rattle.bases.specs.Bases.{entries_of, vectors_of};
 ghost use Rattle.masks.specs.Points.{prime_by};
-ghost use Rattle.bases.specs.Entry.{candidate_at, EntryAt};
 ghost use Rattle.cover.specs.Choice.{first_holding};
-ghost use Rattle.choice.specs.Search.{Positive, Search, found_of, FoundAt, better_of};
-ghost use Rattle.choice.specs.Chosen.{max_chosen, added, MarksPrime, Chose};
+ghost use Rattle.choice.specs.Search.{Positive, Search, candidate_of, PrimeAt, found_of, FoundAt, stays, better_of};
+ghost use Rattle.choice.specs.Chosen.{max_chosen, primes_in, added, MarksPrime, Chose};
 
-use bases::entries::ENTRY_COUNT;
 use table::MAX_POINTS;
 
 // ---- the least point of a coset
@@ -31,35 +28,32 @@ fn least_point(d: usize, x: u16, entry: u64) -> u16
 {
     let mut point = x;
     let mut rest = entry;
-    let mut left = d;
-    while left > 0 {
+    for _ in 0..d {
         point = gf2::clear_lead((rest % 256) as u16, point);
-        rest = rest / 256;
-        left -= 1;
+        rest /= 256;
     }
     point
 }
 
 // ---- the first prime that holds a point
 
-// What a search has found: whether anything, and then its degree, its least point and its entry of the table of bases.
-#[derive(Clone, Copy)]
-pub struct Found {
-    pub any: bool,
+// A prime by its degree, its least point and its entry of the table of bases.
+#[derive(Clone, Copy, Debug, PartialEq, Eq)]
+pub struct Prime {
     pub degree: usize,
     pub point: u16,
     pub entry: u64,
 }
 
-// Whether the best so far stays before a candidate with this least point: it was found, and its own least point isn't greater.
-fn stays(any: bool, own: u16, point: u16) -> bool
-    ensures { result ≡ (any && leb own point) }
+// Whether the best so far stays before a candidate with this least point: its own least point isn't greater.
+fn stays(best: Option<Prime>, point: u16) -> bool
+    ensures { result ≡ stays best point }
 {
-    any && own <= point
+    best.is_some_and(|prime| prime.point <= point)
 }
 
 // The best so far, or what an entry has in its place: of its space only the coset of x holds x, and on equal least points the earlier entry stays.
-fn better(best: Found, on: u64, m: usize, d: usize, x: u16, entry: u64) -> Found
+fn better(best: Option<Prime>, on: u64, m: usize, d: usize, x: u16, entry: u64) -> Option<Prime>
     requires search { Search m on d x }
     requires mem { Mem entry (entries_of d) }
     ensures { result ≡ better_of (prime_by m on 0) m d x entry best }
@@ -68,61 +62,44 @@ fn better(best: Found, on: u64, m: usize, d: usize, x: u16, entry: u64) -> Found
         return best;
     }
     let point = least_point(d, x, entry);
-    if stays(best.any, best.point, point) {
+    if stays(best, point) {
         return best;
     }
     if !masks::is_prime(on, 0, m, d, point as u64, entry) {
         return best;
     }
-    Found {
-        any: true,
+    Some(Prime {
         degree: d,
         point,
         entry,
-    }
+    })
 }
 
 // The first prime of degree d in listing order that holds x.
-fn first_of_degree(table: &[u64; ENTRY_COUNT], on: u64, m: usize, d: usize, x: u16) -> Found
-    requires table_value { table.now ≡ entries }
+fn first_of_degree(on: u64, m: usize, d: usize, x: u16) -> Option<Prime>
     requires search { Search m on d x }
-    ensures result_value { found_of result ≡ first_holding (keep (prime_by m on 0) (candidates_of m d)) x }
+    ensures first { found_of result ≡ first_holding (keep (prime_by m on 0) (candidates_of m d)) x }
     ensures found_at { FoundAt m result }
 {
-    let mut best = Found {
-        any: false,
-        degree: 0,
-        point: 0,
-        entry: 0,
-    };
-    let mut i = bases::start_of(d);
-    let end = bases::stop_of(d);
-    while i < end {
-        best = better(best, on, m, d, x, table[i]);
-        i += 1;
+    let mut best = None;
+    for &entry in bases::entries_of(d) {
+        best = better(best, on, m, d, x, entry);
     }
     best
 }
 
 // The first prime in listing order that holds x: degree falling.
-#[tactic(auto, using(crate::proofs::First::from_last))]
-fn first_holding(table: &[u64; ENTRY_COUNT], on: u64, m: usize, x: u16) -> Found
-    requires table_value { table.now ≡ entries }
+fn first_holding(on: u64, m: usize, x: u16) -> Option<Prime>
     requires search { Search m on m x }
-    ensures result_value { found_of result ≡ first_holding (keep (prime_by m on 0) (candidates m)) x }
+    ensures first { found_of result ≡ first_holding (keep (prime_by m on 0) (candidates m)) x }
     ensures found_at { FoundAt m result }
 {
-    let mut d = m;
-    loop {
-        let found = first_of_degree(table, on, m, d, x);
-        if found.any {
-            return found;
+    for d in (0..m + 1).rev() {
+        if let Some(prime) = first_of_degree(on, m, d, x) {
+            return Some(prime);
         }
-        if d == 0 {
-            return found;
-        }
-        d -= 1;
     }
+    None
 }
 
 // ---- what is taken
@@ -130,54 +107,58 @@ fn first_holding(table: &[u64; ENTRY_COUNT], on: u64, m: usize, x: u16) -> Found
 // The most points of a function of at most six variables, as `max_chosen` in specs/: no more primes are chosen.
 pub const MAX_CHOSEN: usize = 64;
 
-// The primes chosen for a complete function of at most six variables, in the order taken.
+// The primes chosen for a complete function of at most six variables, in the order taken: the first so many of the array, since no call
+// allocates.
 #[derive(Clone, Copy)]
 pub struct Choice {
     pub count: usize,
-    pub degrees: [usize; MAX_CHOSEN],
-    pub points: [u16; MAX_CHOSEN],
-    pub entries: [u64; MAX_CHOSEN],
+    pub primes: [Prime; MAX_CHOSEN],
 }
 
-// The choice with one prime more, put behind the others.
-fn add(mut choice: Choice, degree: usize, point: u16, entry: u64) -> Choice
-    requires { choice.count < max_chosen }
-    ensures { result ≡ added choice degree point entry }
-{
-    let k = choice.count;
-    choice.degrees[k] = degree;
-    choice.points[k] = point;
-    choice.entries[k] = entry;
-    choice.count = k + 1;
-    choice
+const NO_PRIME: Prime = Prime {
+    degree: 0,
+    point: 0,
+    entry: 0,
+};
+
+impl Choice {
+    // The primes chosen, in the order taken.
+    pub fn as_slice(&self) -> &[Prime]
+        requires { self.now.count ≤ max_chosen }
+        ensures primes { result.now ≡ primes_in self.now }
+        ensures number { length result.now ≡ self.now.count }
+    {
+        &self.primes[..self.count]
+    }
+
+    // The choice with one prime more, put behind the others.
+    fn add(mut self, prime: Prime) -> Choice
+        requires { self.count < max_chosen }
+        ensures { result ≡ added self prime }
+    {
+        self.primes[self.count] = prime;
+        self.count += 1;
+        self
+    }
 }
 
-// Whether the candidate of an entry of d vectors holds x.
-fn holds_point(d: usize, point: u16, entry: u64, x: u16) -> bool
-    requires { Positive (vectors_of d entry) }
-    ensures { result ≡ points_of (candidate_at d point entry) x }
+// Whether the candidate of a prime holds x.
+fn holds_point(prime: Prime, x: u16) -> bool
+    requires { Positive (vectors_of prime.degree prime.entry) }
+    ensures { result ≡ points_of (candidate_of prime) x }
 {
-    least_point(d, x ^ point, entry) == 0
+    least_point(prime.degree, x ^ prime.point, prime.entry) == 0
 }
 
-// The flags with those of the candidate's points set, and the others as they were.
-fn mark_prime(
-    m: usize,
-    d: usize,
-    point: u16,
-    entry: u64,
-    mut flags: [bool; MAX_POINTS],
-) -> [bool; MAX_POINTS]
-    requires { EntryAt m d point entry }
-    ensures { MarksPrime (candidate_at d point entry) flags result }
+// The flags with those of the prime's points set, and the others as they were.
+fn mark_prime(m: usize, prime: Prime, mut flags: [bool; MAX_POINTS]) -> [bool; MAX_POINTS]
+    requires { PrimeAt m prime }
+    ensures { MarksPrime (candidate_of prime) flags result }
 {
-    let size = table::point_count(m);
-    let mut x: u16 = 0;
-    while x < size {
-        if holds_point(d, point, entry, x) {
+    for x in 0..table::point_count(m) {
+        if holds_point(prime, x) {
             flags[table::flag_place(x)] = true;
         }
-        x += 1;
     }
     flags
 }
@@ -189,28 +170,21 @@ pub fn choose(m: usize, on: &[u16]) -> Choice
     requires on_rising { unordered on.now ≡ false }
     ensures { Chose m on.now result }
 {
-    let table = bases::entries::table();
     let mask = masks::points::mask_of(on);
     let mut flags = [false; MAX_POINTS];
     let mut choice = Choice {
         count: 0,
-        degrees: [0; MAX_CHOSEN],
-        points: [0; MAX_CHOSEN],
-        entries: [0; MAX_CHOSEN],
+        primes: [NO_PRIME; MAX_CHOSEN],
     };
-    let mut i = 0;
-    while i < on.len() {
-        let x = on[i];
-        i += 1;
+    for &x in on {
         if flags[table::flag_place(x)] {
             continue;
         }
-        let found = first_holding(&table, mask, m, x);
-        if !found.any {
+        let Some(prime) = first_holding(mask, m, x) else {
             continue;
-        }
-        choice = add(choice, found.degree, found.point, found.entry);
-        flags = mark_prime(m, found.degree, found.point, found.entry, flags);
+        };
+        choice = choice.add(prime);
+        flags = mark_prime(m, prime, flags);
     }
     choice
 }

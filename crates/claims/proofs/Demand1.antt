@@ -11,11 +11,11 @@ use borrow.Author.Tests.{eqb-true, eq-eqb, ne_eqb}
 use Rattle.gf2.specs.Finite.{holds, every}
 use Rattle.gf2.proofs.Logic.{and_l, and_r}
 use Rattle.gf2.proofs.Finite.{every-is}
-use Rattle.table.specs.declared.Fault.{Fault}
+use Rattle.table.specs.Refusal.{Fault}
 use Rattle.table.specs.Refusal.{Test, has_place, first_fault, first_place, fault_at, Numbered}
 use Rattle.table.specs.Decision.{Decision, answer_of, after_of}
 use Rattle.table.specs.Table.{table_tests, shared}
-use Rattle.table.proofs.Refusal.{numbered, fault-first, no-fault, place_none, place-first, sound_place, place-zero}
+use Rattle.table.proofs.FirstFault.{numbered, fault-first, no-fault, place_none, place-first, sound_place, place-zero}
 use Rattle.table.proofs.Decide.{decide-accepted, decide-refused, decide-number, decide-exact}
 use Rattle.table.proofs.Table.{refuted, shared-mem}
 use Rattle.stored.specs.Stored.{stored_tests, stored_fault, stored_place}

@@ -39,7 +39,7 @@ use Rattle.cover.proofs.WrittenForm.{table-form-at}
 use Rattle.writing.specs.declared.FormWritten.{FormWritten}
 use Rattle.writing.specs.Writing.{form_bytes, write_accepted, write_refused, write_answer}
 use Rattle.writing.proofs.Ways.{none_first, size-first, write-ways}
-use Rattle.analysis.specs.declared.LinearSpace.{LinearSpace}
+use Rattle.space_answer.specs.declared.LinearSpace.{LinearSpace}
 use Rattle.analysis.specs.declared.Completion.{Completion}
 use Rattle.analysis.specs.declared.Analysis.{Analysis}
 use Rattle.analysis.specs.Spaces.{completed_restriction, complete_accepted, analyse_accepted, linear_space_answer, linear_space_accepted}

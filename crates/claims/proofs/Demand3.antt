@@ -15,7 +15,7 @@ use Rattle.gf2.proofs.Logic.{clash, and_l, and_r}
 use Rattle.gf2.proofs.Finite.{append-mem}
 use Rattle.table.specs.Refusal.{Test, test, NoneApplies, size_fault, place_fault}
 use Rattle.table.specs.Table.{table_tests, table_fault, Accepted}
-use Rattle.table.proofs.Refusal.{no-fault}
+use Rattle.table.proofs.FirstFault.{no-fault}
 use Rattle.table.proofs.Table.{table-numbered, no-refusal}
 use Rattle.table.proofs.Decide.{decide-number}
 use Rattle.cubes.specs.Lists.{keep}

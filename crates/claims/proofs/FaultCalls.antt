@@ -13,14 +13,12 @@ use borrow.Author.Tests.{eq-eqb}
 use Rattle.gf2.specs.Finite.{Mem}
 use Rattle.gf2.proofs.Logic.{clash}
 use Rattle.gf2.proofs.Finite.{append-mem}
-use Rattle.table.specs.declared.Fault.{Fault}
+use Rattle.table.specs.Refusal.{Fault}
 use Rattle.table.specs.Refusal.{Test, test, has_place, first_fault, fault_at, fault_of, variables_fault, point_fault, order_fault, room_fault, counts_fault, first_point_fault, wrong_kind_fault, wrong_count_fault}
 use Rattle.table.specs.Table.{bad_count, outside, unordered}
 use Rattle.table.proofs.Decide.{decide-number, PlacedWays}
 use Rattle.records.specs.declared.Kind.{Kind}
 use Rattle.records.specs.declared.Kind.TheVariants.{Variables, Product, Factor, End, On, Free}
-use Rattle.records.specs.declared.RecordHead.{RecordHead}
-use Rattle.records.specs.declared.RecordHead.TheVariants.{Known, Refused}
 use Rattle.records.specs.Kinds.{head_of}
 use Rattle.records.specs.Walks.{fault_number, fault_place, fault_found, is_fault}
 use Rattle.records.specs.Faults.{Record, place_after, ended, is_admitted, kind_faults, body_faults, missing_faults, body_or_missing, faults_after, fault_end}
@@ -57,6 +55,8 @@ use Rattle.lines.specs.Lines.{fault_line}
 use Rattle.report.proofs.Answering.{report-refused}
 use Rattle.claims.specs.Faults.{FaultOf, Tells, table_refusal, points_refusal, rewrite_refusal, comparison_refusal, FaultsTold}
 use Rattle.claims.proofs.Faults.{tells}
+use Rattle.records.specs.Kinds.{RecordHead}
+use Rattle.std.specs.Prelude.{Ok, Err}
 
 -- ---- reading a stored table
 
@@ -192,8 +192,8 @@ not-awaited before (byte ∷ rest) t m a n p =
     judged Free body e = e
 
     later : (h : RecordHead) → Mem t (body_or_missing table_rules before here h rest) → ⊥
-    later (Refused fault) k = k
-    later (Known kind l) k = go (leb l (length rest)) k
+    later (Err fault) k = k
+    later (Ok (kind, l)) k = go (leb l (length rest)) k
       where
         go : (b : Bool) → Mem t (cond b (body_faults table_rules before (here + 1) kind (take l rest)) (missing_faults here rest)) → ⊥
         go true k = judged kind (take l rest) k

@@ -10,10 +10,8 @@ use lib.ListN.{length, take, drop, length-append, take-append-drop}
 use lib.Seq.{take-append_seam}
 use Rattle.gf2.specs.Finite.{Mem}
 use Rattle.gf2.proofs.Logic.{clash}
-use Rattle.table.specs.declared.Fault.{Fault}
+use Rattle.table.specs.Refusal.{Fault}
 use Rattle.table.specs.Refusal.{has_place, fault_at, bytes_missing_fault, bytes_after_fault}
-use Rattle.records.specs.declared.Walk.{Walk}
-use Rattle.records.specs.declared.Walk.TheVariants.{Laid, WrongKind, Missing, WrongVariables, WrongFactor, NotCanonical, WrongCount, After, TooMany}
 use Rattle.records.specs.Kinds.{Bytes}
 use Rattle.records.specs.Walks.{fault_number, fault_place, fault_found, is_fault}
 use Rattle.records.specs.Faults.{records_bytes, Rules, fault_end}
@@ -23,19 +21,22 @@ use Rattle.records.proofs.Ruling.{walk_rules, rank}
 use Rattle.records.proofs.Paths.{FirstAt, Found, broken, missing, laid}
 use Rattle.cubes.proofs.Lists.{mem-append}
 use Rattle.claims.specs.Faults.{FaultOf, FirstFault, Begun, Tells}
+use Rattle.table.specs.declared.BytesFault.TheVariants.{WrongKind, Missing, WrongVariables, WrongFactor, NotCanonical, WrongCount, After, TooMany}
+use Rattle.records.specs.Walks.{Walk}
+use Rattle.std.specs.Prelude.{Ok, Err}
 
 -- Every fault of a walk has a number with a place.
 fault-has-place : (w : Walk) → is_fault w ≡ true → has_place (fault_number w) ≡ true
 unfolding has_place
-fault-has-place (Laid count) e = clash e refl
-fault-has-place (WrongKind place) e = refl
-fault-has-place (Missing place) e = refl
-fault-has-place (WrongVariables place) e = refl
-fault-has-place (WrongFactor place) e = refl
-fault-has-place (NotCanonical place) e = refl
-fault-has-place (WrongCount place) e = refl
-fault-has-place (After place) e = refl
-fault-has-place (TooMany place) e = refl
+fault-has-place (Ok count) e = clash e refl
+fault-has-place (Err (WrongKind place)) e = refl
+fault-has-place (Err (Missing place)) e = refl
+fault-has-place (Err (WrongVariables place)) e = refl
+fault-has-place (Err (WrongFactor place)) e = refl
+fault-has-place (Err (NotCanonical place)) e = refl
+fault-has-place (Err (WrongCount place)) e = refl
+fault-has-place (Err (After place)) e = refl
+fault-has-place (Err (TooMany place)) e = refl
 
 -- The order by rank, in its two parts.
 by_rank : (number place number₁ place₁ : ℕ) → number₁ ≤ 27 → rank number place ≤ rank number₁ place₁ → (place < place₁) ⊎ ((place ≡ place₁) × (number ≤ number₁))
@@ -194,28 +195,28 @@ module _ (rules : Rules) (Encodes : List ℕ → Type 0) (walk : List ℕ → Wa
 
   -- ---- encodings that are cut or have bytes after them
 
-  longer-walk : (bytes : List ℕ) → is_fault (walk bytes) ≡ false → (byte : ℕ) (more : List ℕ) → walk (bytes ++ (byte ∷ more)) ≡ After (length bytes)
+  longer-walk : (bytes : List ℕ) → is_fault (walk bytes) ≡ false → (byte : ℕ) (more : List ℕ) → walk (bytes ++ (byte ∷ more)) ≡ Err (After (length bytes))
   unfolding records_bytes
   longer-walk bytes e byte more = go (found bytes)
     where
-      go : Found rules [] bytes (walk bytes) → walk (bytes ++ (byte ∷ more)) ≡ After (length bytes)
+      go : Found rules [] bytes (walk bytes) → walk (bytes ++ (byte ∷ more)) ≡ Err (After (length bytes))
       go (broken front rest q all end known some inside f) = clash (is-fault (walk bytes) some) e
       go (missing q f) = clash (ap is_fault q) e
-      go (laid count q none after) = goes (bytes ++ (byte ∷ more)) ∙ after byte more ∙ ap After (omega arith)
+      go (laid count q none after) = goes (bytes ++ (byte ∷ more)) ∙ after byte more ∙ ap (λ (p : ℕ). Err (After p)) (omega arith)
 
-  shorter-walk : (front : List ℕ) (byte : ℕ) (more : List ℕ) → is_fault (walk (front ++ (byte ∷ more))) ≡ false → walk front ≡ Missing (length front)
+  shorter-walk : (front : List ℕ) (byte : ℕ) (more : List ℕ) → is_fault (walk (front ++ (byte ∷ more))) ≡ false → walk front ≡ Err (Missing (length front))
   unfolding records_bytes
   shorter-walk front byte more e = go (found front)
     where
       bytes : List ℕ
       bytes = front ++ (byte ∷ more)
 
-      go : Found rules [] front (walk front) → walk front ≡ Missing (length front)
+      go : Found rules [] front (walk front) → walk front ≡ Err (Missing (length front))
       go (broken part rest q all end known some inside f) =
           let same : walk bytes ≡ walk front =
           ap (λ (l : List ℕ). walk (l ++ (byte ∷ more))) q ∙ ap walk (append_assoc part rest (byte ∷ more)) ∙ goes (part ++ (rest ++ (byte ∷ more))) ∙ all (rest ++ (byte ∷ more)) in
           clash (ap is_fault same ∙ is-fault (walk front) some) e
-      go (missing q f) = q ∙ ap Missing (omega arith)
+      go (missing q f) = q ∙ ap (λ (p : ℕ). Err (Missing p)) (omega arith)
       go (laid count q none after) = clash (ap is_fault (longer-walk front (ap is_fault q) byte more)) e
 
   extended : (bytes : List ℕ) (byte : ℕ) (more : List ℕ) → Encodes bytes → call (bytes ++ (byte ∷ more)) ≡ fault_at bytes_after_fault (length bytes)

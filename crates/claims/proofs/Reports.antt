@@ -9,11 +9,11 @@ use lib.Seq.{take-append_seam}
 use Rattle.gf2.specs.Limits.{max_variables}
 use Rattle.gf2.specs.Finite.{holds, select}
 use Rattle.gf2.proofs.Finite.{select-mem, select-holds, select-rising}
-use Rattle.table.specs.declared.Fault.{Fault}
+use Rattle.table.specs.Refusal.{Fault}
 use Rattle.table.specs.Refusal.{Test, test, NoneApplies, size_fault}
 use Rattle.table.specs.Decision.{front, Decision, room_test}
 use Rattle.table.specs.Table.{table_tests, table_fault, Accepted}
-use Rattle.table.proofs.Refusal.{no-fault}
+use Rattle.table.proofs.FirstFault.{no-fault}
 use Rattle.table.proofs.Table.{table-numbered, accepted, no-refusal}
 use Rattle.table.proofs.Decide.{decide-accepted}
 use Rattle.space.specs.Closure.{linear_space}

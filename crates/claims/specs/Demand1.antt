@@ -6,7 +6,7 @@ use Rattle.std.specs.Prelude.{◌≡◌, false, ◌≢◌, List, [], ◌∷◌, 
 use Rattle.gf2.specs.Finite.{holds}
 use Rattle.basis.specs.declared.Basis.{Basis}
 use Rattle.basis.specs.declared.ShortList.{ShortList}
-use Rattle.table.specs.declared.Fault.{Fault}
+use Rattle.table.specs.Refusal.{Fault}
 use Rattle.table.specs.Refusal.{has_place, fault_at, First, Exact, variables_fault, point_fault, order_fault, shared_fault, size_fault, affine_fault, room_fault, place_fault, counts_fault, first_point_fault, empty_form_fault, records_fault, too_many_products_fault}
 use Rattle.table.specs.Decision.{front, Decision}
 use Rattle.table.specs.Table.{shared}
@@ -17,7 +17,7 @@ use Rattle.stored.specs.Reading.{read_call, read_answer, read_on_after, read_fre
 use Rattle.compare.specs.declared.Comparison.{Comparison}
 use Rattle.compare.specs.Answer.{compare_bytes, compare_call, compare_answer, compare_after}
 use Rattle.space.specs.Completion.{completed_points}
-use Rattle.analysis.specs.declared.LinearSpace.{LinearSpace}
+use Rattle.space_answer.specs.declared.LinearSpace.{LinearSpace}
 use Rattle.analysis.specs.declared.Completion.{Completion}
 use Rattle.analysis.specs.declared.Analysis.{Analysis}
 use Rattle.analysis.specs.declared.AffineSpace.{AffineSpace}

@@ -21,7 +21,7 @@ use Rattle.cubes.specs.Records.{max_listed}
 use Rattle.cover.specs.WrittenForm.{written_form}
 use Rattle.writing.specs.declared.FormWritten.{FormWritten}
 use Rattle.writing.specs.Writing.{write_answer, write_after}
-use Rattle.analysis.specs.declared.LinearSpace.{LinearSpace}
+use Rattle.space_answer.specs.declared.LinearSpace.{LinearSpace}
 use Rattle.analysis.specs.declared.Completion.{Completion}
 use Rattle.analysis.specs.declared.Analysis.{Analysis}
 use Rattle.analysis.specs.Spaces.{linear_space_answer, complete_answer, complete_after, analyse_answer, analyse_after}

@@ -3,7 +3,7 @@
 -- next: Bits.
 use Rattle.std.specs.Prelude.{◌≡◌, true, false, ◌⊎◌, ◌≢◌, ◌↔◌, List, [], ◌∷◌, ◌++◌, ℕ, ◌≤◌, ◌<◌, length, take}
 use Rattle.gf2.specs.Finite.{Mem}
-use Rattle.table.specs.declared.Fault.{Fault}
+use Rattle.table.specs.Refusal.{Fault}
 use Rattle.table.specs.Refusal.{has_place, fault_at, bytes_missing_fault, bytes_after_fault}
 use Rattle.records.specs.Kinds.{Bytes}
 use Rattle.records.specs.Faults.{Record, AllWhole, records_bytes, place_after, ended, Rules, faults_after, Applies, fault_end}

@@ -33,11 +33,9 @@ pub fn closure_set(on: &[u16], free: &[u16]) -> [u64; SET_WORDS]
 {
     let allowed = allowed_points(on, free);
     let mut closure = EVERY_POINT;
-    let mut i = 0;
-    while i < on.len() {
-        let moved = point_sets::moved_set(&allowed, on[i]);
+    for &w in on {
+        let moved = point_sets::moved_set(&allowed, w);
         closure = point_sets::both(&closure, &moved);
-        i += 1;
     }
     closure
 }
@@ -48,14 +46,10 @@ fn spread_points(on: &[u16], basis: Basis) -> [u64; SET_WORDS]
     requires basis_within { BasisWithin set_variables basis }
     ensures { (w : ℕ) → member result w ≡ spread on.now (vectors_of basis) w }
 {
-    let vectors = basis.vectors;
-    let len = basis.len;
     let mut points = point_sets::set_of(on);
-    let mut i = 0;
-    while i < len {
-        let moved = point_sets::moved_set(&points, vectors[i]);
+    for &b in basis.as_slice() {
+        let moved = point_sets::moved_set(&points, b);
         points = point_sets::either(&points, &moved);
-        i += 1;
     }
     points
 }
@@ -68,10 +62,8 @@ pub fn spread_flags(on: &[u16], basis: Basis) -> [bool; MAX_POINTS]
 {
     let points = spread_points(on, basis);
     let mut flags = [false; MAX_POINTS];
-    let mut w = 0;
-    while w < SET_SIZE {
-        flags[table::flag_place(w)] = point_sets::has(&points, w);
-        w += 1;
+    for w in 0..SET_SIZE {
+        flags[w as usize] = point_sets::has(&points, w);
     }
     flags
 }

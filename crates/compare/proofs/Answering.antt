@@ -8,7 +8,7 @@ use lib.ListN.{length, take}
 use lib.Pow.{pow_mono}
 use Rattle.gf2.specs.Finite.{Mem}
 use Rattle.gf2.proofs.Finite.{select-ext, select-mem}
-use Rattle.table.specs.declared.Fault.{Fault}
+use Rattle.table.specs.Refusal.{Fault}
 use Rattle.table.specs.Refusal.{first_fault, fault_of}
 use Rattle.table.specs.Decision.{front}
 use Rattle.table.specs.Flags.{max_points}

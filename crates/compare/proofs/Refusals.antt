@@ -11,8 +11,8 @@ use native.Mathlib.Omega.{arith}
 use lib.Dec.{eqb, ltb}
 use borrow.Author.Tests.{eq-eqb, ne_eqb, lt-ltb, le-ltb}
 use Rattle.table.specs.Refusal.{test, first_fault, first_place, fault_at, fault_of, counts_fault, first_point_fault}
-use Rattle.table.specs.declared.Fault.{Fault}
-use Rattle.table.proofs.Refusal.{fault-append, fault-before, place-append, place-before}
+use Rattle.table.specs.Refusal.{Fault}
+use Rattle.table.proofs.FirstFault.{fault-append, fault-before, place-append, place-before}
 use Rattle.table.proofs.Decide.{table-refused, table-passed}
 use Rattle.stored.specs.Marks.{stored_variables}
 use Rattle.stored.specs.Stored.{stored_tests, stored_fault}
@@ -46,13 +46,13 @@ module _ (left right : List ℕ) (first : ℕ) where
 
   module _ (e : stored_fault left ≡ 0) (f : stored_fault right ≡ 0) where
     -- Any other number has the place 0.
-    pub found-pair : (r : Fault) (k : ℕ) → r ≡ fault_at k 0 → compare_fault left right first ≡ k → r ≡ fault_of (compare_tests left right first)
+    pub found-pair : (k : ℕ) → compare_fault left right first ≡ k → fault_at k 0 ≡ fault_of (compare_tests left right first)
     unfolding compare_fault stored_fault first_place
-    found-pair r k q number =
+    found-pair k number =
         let others = stored_tests right ++ pair_tests left right first in
         let place = place-append (stored_tests left) others (stored-numbered left) e ∙ place-append (stored_tests right) (pair_tests left right first) (stored-numbered right) f
         ∙ zeros (not (eqb (stored_variables left) (stored_variables right))) (ltb (table_size left) first) in
-        cc (q, number, place)
+        cc (number, place)
       where
         zeros : (a b : Bool) → first_place (test counts_fault a ∷ test first_point_fault b ∷ []) ≡ 0
         zeros true b = refl

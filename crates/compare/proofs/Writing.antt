@@ -94,9 +94,9 @@ module _ (left right : ℕ → ℕ) (first : ℕ) (lent : List ℕ) where
           (rw (s.0, s.1, ← w.count), handed-front s.0)
 
       -- At the size it is done.
-      pub passed-ends : p ≡ size → (record { records = records; next = p } ≡ stopped_at left right first size (length lent)) × (room ≡ front (handed_bytes left right first size (length lent)) lent)
+      pub passed-ends : p ≡ size → (record { records = records; next = size } ≡ stopped_at left right first size (length lent)) × (room ≡ front (handed_bytes left right first size (length lent)) lent)
       unfolding differing_from handed_points next_point
       passed-ends e =
           let all : length (select listed size) ≡ records = ap (λ (k : ℕ). length (select listed k)) (sym e) ∙ sym w.count in
           let s = ends listed size (length lent / difference_length) (omega (arith, w.fits)) in
-          (rw (s.0, s.1, all, e), handed-front (s.0 ∙ ap (select listed) (sym e)))
+          (rw (s.0, s.1, all), handed-front (s.0 ∙ ap (select listed) (sym e)))

@@ -2,6 +2,8 @@
 -- Read next: crate `claims`, which says what any list of such calls hands over.
 use Rattle.std.specs.Prelude.{◌≡◌, not, List, [], ◌∷◌, ◌++◌, ℕ, ◌^◌, eqb, ltb, length}
 use Rattle.table.specs.Refusal.{Test, test, first_fault, first_place, counts_fault, first_point_fault}
+use Rattle.table.specs.declared.Refusal.{Refusal}
+use Rattle.table.specs.Answers.{number_of, place_of}
 use Rattle.table.specs.Decision.{Decision, answer_of, after_of}
 use Rattle.stored.specs.Marks.{stored_variables}
 use Rattle.stored.specs.Stored.{stored_tests, stored_fault}
@@ -63,6 +65,10 @@ compare_accepted left right first room =
 -- A refusal returns its number and its place with all other numbers 0.
 abbrev pub compare_refused : ℕ → ℕ → Comparison
 compare_refused place fault = record { refusal = fault; place = place; records = 0; next = 0; total = 0 }
+
+-- What the call gives for a refusal.
+abbrev pub refused_comparison : Refusal → Comparison
+refused_comparison refusal = compare_refused (place_of refusal) (number_of refusal)
 
 -- The call, the numbers that it returns, and the room after it.
 abbrev pub compare_call : List ℕ → List ℕ → ℕ → List ℕ → Decision Comparison

@@ -17,7 +17,7 @@ use Rattle.gf2.proofs.Finite.{flat_map-append, drop-mem}
 use Rattle.table.specs.Refusal.{first_fault, Numbered, NoneApplies}
 use Rattle.table.specs.Decision.{front}
 use Rattle.table.specs.Table.{table_tests}
-use Rattle.table.proofs.Refusal.{no-fault, numbered}
+use Rattle.table.proofs.FirstFault.{no-fault, numbered}
 use Rattle.table.proofs.Decide.{decide-accepted, decide-refused}
 use Rattle.cubes.specs.Lists.{keep}
 use Rattle.cubes.specs.Cubes.{Candidate, candidate, degree}

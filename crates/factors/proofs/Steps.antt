@@ -7,7 +7,7 @@ use native.Mathlib.Numerals.{add-one}
 use native.Mathlib.Omega.{arith}
 use lib.ListN.{length, take, drop, get_or, length-map, length-take, drop_of_length-le}
 use lib.Bits.{xor_zero_r}
-use lib.Seq.{take_all, get_or-take, length-take-le}
+use lib.Seq.{take_all, length-take-le}
 use Rattle.gf2.specs.Limits.{max_variables}
 use Rattle.gf2.specs.Bits.{◌⊕◌, bit}
 use Rattle.gf2.proofs.Finite.{map-take}
@@ -35,15 +35,14 @@ module _ (f : ℕ → ℕ) (s : ShortList) (e : s ≡ short (listed s)) (i : ℕ
       short-len found (map f (take i (listed s))) p
       ∙ length-map (take i (listed s)) f ∙ length-take-le i (listed s) (omega (arith, short-len s (listed s) e))
 
-  pub mapped_next : i < s.len → (next : ShortList) (v : ℕ) → next ≡ short (listed found ++ (v ∷ [])) → v ≡ f (get_or s.values i 0) → next ≡ short (map f (take (i + 1) (listed s)))
+  pub mapped_next : i < length (listed s) → (next : ShortList) (v : ℕ) → next ≡ short (listed found ++ (v ∷ [])) → v ≡ f (get_or (listed s) i 0) → next ≡ short (map f (take (i + 1) (listed s)))
   mapped_next h next v q w =
-      let at : get_or (listed s) i 0 ≡ get_or s.values i 0 = get_or-take s.len s.values i 0 h in
       let more : listed found ++ (v ∷ []) ≡ map f (take (i + 1) (listed s)) =
-      rw (short-listed found (map f (take i (listed s))) p, w, add-one, map-take f (listed s) i 0 (omega (arith, short-len s (listed s) e)), at) in
+      rw (short-listed found (map f (take i (listed s))) p, w, add-one, map-take f (listed s) i 0 h) in
       q ∙ ap short more
 
-  pub mapped-all : s.len ≤ i → found ≡ short (map f (listed s))
-  mapped-all h = p ∙ ap (λ (l : List ℕ). short (map f l)) (take_all i (listed s) (omega (arith, short-len s (listed s) e)))
+  pub mapped-all : length (listed s) ≤ i → found ≡ short (map f (listed s))
+  mapped-all h = p ∙ ap (λ (l : List ℕ). short (map f l)) (take_all i (listed s) h)
 
 -- ---- the vectors of an entry
 
@@ -56,17 +55,15 @@ vectors-next left rest done h =
 -- ---- the equations put in for a mask
 
 -- One equation more: what is found, then what the equations behind give, is the whole.
-pub substituted-next : (s : ShortList) → s ≡ short (listed s) → (mask i found : ℕ) → i < s.len
-    → (found ⊕ cond (bit (s.len - 1 - i) mask) (get_or s.values i 0) 0) ⊕ substitute_mask (drop (i + 1) (listed s)) mask ≡ found ⊕ substitute_mask (drop i (listed s)) mask
-substituted-next s e mask i found h =
+pub substituted-next : (s : ShortList) → s ≡ short (listed s) → (mask i found v : ℕ) → i < length (listed s) → v ≡ get_or (listed s) i 0
+    → (found ⊕ cond (bit (s.len - 1 - i) mask) v 0) ⊕ substitute_mask (drop (i + 1) (listed s)) mask ≡ found ⊕ substitute_mask (drop i (listed s)) mask
+substituted-next s e mask i found v h w =
     let es = listed s in
     let l : s.len ≡ length es = short-len s es e in
     let k : length es - suc i ≡ s.len - 1 - i = omega arith in
-    let q : get_or es i 0 ≡ get_or s.values i 0 = get_or-take s.len s.values i 0 h in
-    rw (add-one, xor_assoc found) (ap (λ (x : ℕ). found ⊕ x) (sym (substitute-step es mask i (omega arith) ∙ rw (k, q))))
+    rw (add-one, xor_assoc found) (ap (λ (x : ℕ). found ⊕ x) (sym (substitute-step es mask i h ∙ rw (k, sym w))))
 
 -- All of them are put in.
-pub substituted-all : (s : ShortList) → s ≡ short (listed s) → (mask i found : ℕ) → s.len ≤ i → found ⊕ substitute_mask (drop i (listed s)) mask ≡ found
+pub substituted-all : (es : List ℕ) (mask i found : ℕ) → length es ≤ i → found ⊕ substitute_mask (drop i es) mask ≡ found
 unfolding substitute_mask
-substituted-all s e mask i found h =
-    rw (drop_of_length-le (listed s) {i = i} (omega (arith, short-len s (listed s) e))) (xor_zero_r found)
+substituted-all es mask i found h = rw (drop_of_length-le es {i = i} h) (xor_zero_r found)

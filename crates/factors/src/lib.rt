@@ -10,15 +10,16 @@ ghost use Rattle.basis.specs.Reduced.{basis_of};
 ghost use Rattle.cubes.specs.Cubes.{IsCandidate};
 ghost use Rattle.cubes.specs.Records.{max_listed};
 ghost use Rattle.bases.specs.Bases.{vectors_of};
-ghost use Rattle.bases.specs.Entry.{candidate_at};
+ghost use Rattle.choice.specs.Search.{candidate_of};
 ghost use Rattle.cover.specs.CanonicalProduct.{constant_at};
 ghost use Rattle.cover.specs.Substitution.{substitute_mask};
 ghost use Rattle.cover.specs.WrittenForm.{product_by};
 ghost use Rattle.factors.specs.Factors.{factors_of, factors_at};
 
 use basis::{Basis, ShortList};
+use choice::Prime;
 
-// The factors of a product in form order: their constants and their masks.
+// The factors of a product in form order: their constants and their masks. Two lists and no list of pairs: a line of the report takes the two apart.
 #[derive(Clone, Copy)]
 pub struct FactorList {
     pub constants: ShortList,
@@ -32,16 +33,14 @@ fn basis_of(d: usize, entry: u64) -> Basis
 {
     let mut vectors = ShortList::EMPTY;
     let mut rest = entry;
-    let mut left = d;
-    while left > 0 {
+    for _ in 0..d {
         vectors = vectors.push((rest % 256) as u16);
-        rest = rest / 256;
-        left -= 1;
+        rest /= 256;
     }
-    let values = vectors.values;
+    let ShortList { values, len } = vectors;
     Basis {
         vectors: values,
-        len: vectors.len,
+        len,
     }
 }
 
@@ -65,14 +64,10 @@ fn substitute(equations: ShortList, mask: u16) -> u16
     requires { equations ≡ short (listed equations) }
     ensures { result ≡ substitute_mask (listed equations) mask }
 {
-    let values = equations.values;
-    let len = equations.len;
-    let mut found: u16 = 0;
-    let mut i = 0;
-    while i < len {
-        let place = (len - 1 - i) as u32;
-        found = found ^ term(values[i], place, mask);
-        i += 1;
+    let mut found = 0;
+    for (i, &equation) in equations.as_slice().iter().enumerate() {
+        let place = (equations.len - 1 - i) as u32;
+        found ^= term(equation, place, mask);
     }
     found
 }
@@ -83,16 +78,11 @@ fn factors_at(equations: ShortList, masks: ShortList, point: u16) -> FactorList
     requires masks_value { masks ≡ short (listed masks) }
     ensures { result ≡ factors_at (listed equations) (listed masks) point }
 {
-    let values = masks.values;
-    let len = masks.len;
     let mut constants = ShortList::EMPTY;
     let mut written = ShortList::EMPTY;
-    let mut i = 0;
-    while i < len {
-        let mask = values[i];
+    for &mask in masks.as_slice() {
         constants = constants.push(constant_at(mask, point));
         written = written.push(substitute(equations, mask));
-        i += 1;
     }
     FactorList {
         constants,
@@ -100,15 +90,14 @@ fn factors_at(equations: ShortList, masks: ShortList, point: u16) -> FactorList
     }
 }
 
-// The product of the candidate of m variables that has this least point and the vectors of this entry, with the equations of y1, y2, ..
-// put in.
-pub fn product_of(equations: ShortList, m: usize, d: usize, point: u16, entry: u64) -> FactorList
+// The product of a prime of m variables, with the equations of y1, y2, .. put in.
+pub fn product_of(equations: ShortList, m: usize, prime: Prime) -> FactorList
     requires equations_value { equations ≡ short (listed equations) }
     requires m_le_max_listed { m ≤ max_listed }
-    requires candidate { IsCandidate m (candidate_at d point entry) }
-    ensures { result ≡ factors_of (product_by (listed equations) m (candidate_at d point entry)) }
+    requires candidate { IsCandidate m (candidate_of prime) }
+    ensures { result ≡ factors_of (product_by (listed equations) m (candidate_of prime)) }
 {
-    let basis = basis_of(d, entry);
+    let basis = basis_of(prime.degree, prime.entry);
     let masks = projection::equations(basis, m);
-    factors_at(equations, masks, point)
+    factors_at(equations, masks, prime.point)
 }

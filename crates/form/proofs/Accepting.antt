@@ -9,11 +9,9 @@ use lib.ListN.{length}
 use Rattle.gf2.specs.Limits.{max_variables}
 use Rattle.gf2.specs.Finite.{Mem, holds}
 use Rattle.gf2.proofs.Logic.{clash}
-use Rattle.table.specs.declared.Fault.{Fault}
+use Rattle.table.specs.Refusal.{Fault}
 use Rattle.table.specs.Refusal.{fault_of, Numbered}
-use Rattle.table.proofs.Refusal.{numbered}
-use Rattle.records.specs.declared.Walk.{Walk}
-use Rattle.records.specs.declared.Walk.TheVariants.{Laid, WrongKind, Missing, WrongVariables, WrongFactor, NotCanonical, WrongCount, After, TooMany}
+use Rattle.table.proofs.FirstFault.{numbered}
 use Rattle.records.specs.Walks.{fault_number, fault_found, is_fault}
 use Rattle.records.proofs.Numbers.{no_number, none-fault, layout-found}
 use Rattle.form.specs.Decoding.{form_variables}
@@ -21,6 +19,9 @@ use Rattle.form.specs.Walk.{walked_form}
 use Rattle.form.specs.Refusal.{IsForm, form_faults, form_tests, form_fault}
 use Rattle.form.proofs.Laying.{LaidAs, form, form-laid}
 use Rattle.form.proofs.Encodings.{form-valid}
+use Rattle.table.specs.declared.BytesFault.TheVariants.{WrongKind, Missing, WrongVariables, WrongFactor, NotCanonical, WrongCount, After, TooMany}
+use Rattle.records.specs.Walks.{Walk}
+use Rattle.std.specs.Prelude.{Ok, Err}
 
 -- No test of a form's bytes gives 0.
 pub form-numbered : (bytes : List ℕ) → Numbered (form_tests bytes)
@@ -29,15 +30,15 @@ form-numbered bytes = numbered (form_tests bytes) refl
 
 -- Every number of a fault is one of those of a form.
 form-number : (found : Walk) → is_fault found ≡ true → Mem (fault_number found) form_faults
-form-number (Laid count) e = clash e refl
-form-number (WrongKind place) e = inl refl
-form-number (Missing place) e = inr (inl refl)
-form-number (WrongVariables place) e = inr (inr (inl refl))
-form-number (WrongFactor place) e = inr (inr (inr (inl refl)))
-form-number (NotCanonical place) e = inr (inr (inr (inr (inl refl))))
-form-number (WrongCount place) e = inr (inr (inr (inr (inr (inl refl)))))
-form-number (After place) e = inr (inr (inr (inr (inr (inr (inl refl))))))
-form-number (TooMany place) e = inr (inr (inr (inr (inr (inr (inr (inl refl)))))))
+form-number (Ok count) e = clash e refl
+form-number (Err (WrongKind place)) e = inl refl
+form-number (Err (Missing place)) e = inr (inl refl)
+form-number (Err (WrongVariables place)) e = inr (inr (inl refl))
+form-number (Err (WrongFactor place)) e = inr (inr (inr (inl refl)))
+form-number (Err (NotCanonical place)) e = inr (inr (inr (inr (inl refl))))
+form-number (Err (WrongCount place)) e = inr (inr (inr (inr (inr (inl refl)))))
+form-number (Err (After place)) e = inr (inr (inr (inr (inr (inr (inl refl))))))
+form-number (Err (TooMany place)) e = inr (inr (inr (inr (inr (inr (inr (inl refl)))))))
 
 -- So the tests give what the walk found.
 pub form-told : (bytes : List ℕ) → fault_of (form_tests bytes) ≡ fault_found (walked_form bytes)

@@ -13,14 +13,10 @@ use lib.ListN.{length, drop}
 use Rattle.gf2.specs.Limits.{max_variables}
 use Rattle.gf2.specs.Finite.{Mem, holds}
 use Rattle.gf2.proofs.Logic.{clash, and_i, and_r}
-use Rattle.table.specs.declared.Fault.{Fault}
+use Rattle.table.specs.Refusal.{Fault}
 use Rattle.table.specs.Refusal.{fault_of, Numbered}
-use Rattle.table.proofs.Refusal.{numbered}
+use Rattle.table.proofs.FirstFault.{numbered}
 use Rattle.records.specs.declared.Kind.TheVariants.{Product, Factor as FactorKind}
-use Rattle.records.specs.declared.Walk.{Walk}
-use Rattle.records.specs.declared.Walk.TheVariants.{Laid, WrongKind, Missing, WrongVariables, WrongFactor, NotCanonical, WrongCount, After, TooMany}
-use Rattle.records.specs.declared.Step.{Step}
-use Rattle.records.specs.declared.Step.TheVariants.{Whole, Stop}
 use Rattle.records.specs.Kinds.{product_kind, factor_kind, word_of, low_byte, high_byte, Bytes}
 use Rattle.records.specs.Walks.{body_step, go_on, walk_by, fault_number, fault_found, is_fault}
 use Rattle.records.proofs.KindBytes.{head_byte, low-of-word, high-of-word}
@@ -34,10 +30,14 @@ use Rattle.form.specs.Walk.{judge_step, factor_step, Behind, behind, form_step, 
 use Rattle.form.specs.Refusal.{IsProduct, product_faults, product_tests, product_fault}
 use Rattle.form.proofs.Laying.{factor-goes}
 use Rattle.form.proofs.Encodings.{parts-factor, same-factor, factors-bytes}
+use Rattle.table.specs.declared.BytesFault.TheVariants.{WrongKind, Missing, WrongVariables, WrongFactor, NotCanonical, WrongCount, After, TooMany}
+use Rattle.records.specs.Walks.{Walk, Step}
+use Rattle.std.specs.Prelude.{Ok, Err}
+use Rattle.std.specs.declared.ops.ControlFlow.TheVariants.{Continue, Break}
 
 -- A record that is passed in a product alone is passed in a form.
-pub alone-whole : (alone : Bool) (n : ℕ) (b : Behind) (byte place : ℕ) (rest : List ℕ) (l : ℕ) → record_step alone n b byte place rest ≡ Whole l → form_step n b byte place rest ≡ Whole l
-alone-whole alone n b byte place rest l e = (failed-test (alone && not (eqb byte (awaited_kind b.products))) (form_step n b byte place rest) (WrongKind place) e).1
+pub alone-whole : (alone : Bool) (n : ℕ) (b : Behind) (byte place : ℕ) (rest : List ℕ) (l : ℕ) → record_step alone n b byte place rest ≡ Continue l → form_step n b byte place rest ≡ Continue l
+alone-whole alone n b byte place rest l e = (failed-test (alone && not (eqb byte (awaited_kind b.products))) (form_step n b byte place rest) (Err (WrongKind place)) e).1
 
 -- ---- the numbers of its faults
 
@@ -46,13 +46,13 @@ abbrev Known : Walk → Type 0
 Known found = is_fault found ≡ true → Mem (fault_number found) product_faults
 
 abbrev StopKnown : Step → Type 0
-StopKnown (Whole l) = Unit {0}
-StopKnown (Stop found) = Known found
+StopKnown (Continue l) = Unit {0}
+StopKnown (Break found) = Known found
 
-wrong-kind : (place : ℕ) → Known (WrongKind place)
+wrong-kind : (place : ℕ) → Known (Err (WrongKind place))
 wrong-kind place e = inl refl
 
-missing : (place : ℕ) → Known (Missing place)
+missing : (place : ℕ) → Known (Err (Missing place))
 missing place e = inr (inl refl)
 
 either-known : (t : Bool) (a b : Step) → StopKnown a → StopKnown b → StopKnown (cond t a b)
@@ -60,17 +60,17 @@ either-known true a b p q = p
 either-known false a b p q = q
 
 goes-known : (s : Step) (next : ℕ → Walk) → StopKnown s → ((l : ℕ) → Known (next l)) → Known (go_on s next)
-goes-known (Whole l) next p q = q l
-goes-known (Stop found) next p q = p
+goes-known (Continue l) next p q = q l
+goes-known (Break found) next p q = p
 
 body-known : (l place : ℕ) (rest : List ℕ) → StopKnown (body_step l place rest)
-body-known l place rest = either-known (leb l (length rest)) (Whole l) (Stop (Missing (place + 1 + length rest))) tt (missing (place + 1 + length rest))
+body-known l place rest = either-known (leb l (length rest)) (Continue l) (Break (Err (Missing (place + 1 + length rest)))) tt (missing (place + 1 + length rest))
 
 judge-known : (s : Step) (n : ℕ) (earlier : List Factor) (place : ℕ) (f : Factor) → StopKnown s → StopKnown (judge_step s n earlier place f)
-judge-known (Stop found) n earlier place f p = p
-judge-known (Whole l) n earlier place f p =
-    either-known (fits n f) (cond (agrees earlier f) (Whole l) (Stop (NotCanonical (place + 1)))) (Stop (WrongFactor (place + 1)))
-    (either-known (agrees earlier f) (Whole l) (Stop (NotCanonical (place + 1))) tt (λ e. inr (inr (inr (inl refl))))) (λ e. inr (inr (inl refl)))
+judge-known (Break found) n earlier place f p = p
+judge-known (Continue l) n earlier place f p =
+    either-known (fits n f) (cond (agrees earlier f) (Continue l) (Break (Err (NotCanonical (place + 1))))) (Break (Err (WrongFactor (place + 1))))
+    (either-known (agrees earlier f) (Continue l) (Break (Err (NotCanonical (place + 1)))) tt (λ e. inr (inr (inr (inl refl))))) (λ e. inr (inr (inl refl)))
 
 -- The first record is a product's beginning, of which there is none before it; every later one is a factor.
 begin-known : (n : ℕ) (b : Behind) (byte place : ℕ) (rest : List ℕ) → b.products ≡ 0 → byte ≡ product_kind → StopKnown (form_step n b byte place rest)
@@ -79,7 +79,7 @@ begin-known n b byte place rest z q = rw (q, head_byte Product place, z) (body-k
 factor-known : (n : ℕ) (b : Behind) (byte place : ℕ) (rest : List ℕ) → byte ≡ factor_kind → StopKnown (form_step n b byte place rest)
 factor-known n b byte place rest q =
     rw (q, head_byte FactorKind place)
-    (either-known (eqb b.products 0) (Stop (WrongKind place)) (judge_step (body_step 3 place rest) n b.factors place (factor_of rest)) (wrong-kind place) (judge-known (body_step 3 place rest) n b.factors place (factor_of rest) (body-known 3 place rest)))
+    (either-known (eqb b.products 0) (Break (Err (WrongKind place))) (judge_step (body_step 3 place rest) n b.factors place (factor_of rest)) (wrong-kind place) (judge-known (body_step 3 place rest) n b.factors place (factor_of rest) (body-known 3 place rest)))
 
 record-known : (n : ℕ) (b : Behind) (byte place : ℕ) (rest : List ℕ) → StopKnown (record_step true n b byte place rest)
 record-known n b byte place rest = go (eqb byte (awaited_kind b.products)) refl
@@ -88,7 +88,7 @@ record-known n b byte place rest = go (eqb byte (awaited_kind b.products)) refl
     later true z q = begin-known n b byte place rest (eqb-true b.products 0 z) (eqb-true byte product_kind q)
     later false z q = factor-known n b byte place rest (eqb-true byte factor_kind q)
 
-    go : (t : Bool) → eqb byte (awaited_kind b.products) ≡ t → StopKnown (cond (not t) (Stop (WrongKind place)) (form_step n b byte place rest))
+    go : (t : Bool) → eqb byte (awaited_kind b.products) ≡ t → StopKnown (cond (not t) (Break (Err (WrongKind place))) (form_step n b byte place rest))
     go true q = later (eqb b.products 0) refl q
     go false q = wrong-kind place
 
@@ -96,7 +96,7 @@ walk-known : (n skip : ℕ) (b : Behind) (place : ℕ) (bytes : List ℕ) → Kn
 unfolding walk_by
 walk-known n skip b place [] = go (eqb b.products 0)
   where
-    go : (t : Bool) → Known (cond (not t) (Laid b.products) (Missing place))
+    go : (t : Bool) → Known (cond (not t) (Ok b.products) (Err (Missing place)))
     go true = missing place
     go false = λ e. clash e refl
 walk-known n zero b place (byte ∷ rest) =
@@ -156,7 +156,7 @@ one-laid n byte constant low high rest earlier q fit later =
 
 -- The walk over them, by the number of bytes that are left.
 factors-laid : (k n : ℕ) (bytes : List ℕ) (earlier : List Factor) (place all : ℕ) → length bytes ≤ k → canonical earlier ≡ true
-    → walk_records_from true n 0 (behind 1 earlier) place bytes ≡ Laid all → FactorsLaid n bytes earlier
+    → walk_records_from true n 0 (behind 1 earlier) place bytes ≡ Ok all → FactorsLaid n bytes earlier
 unfolding walk_by
 factors-laid zero n [] earlier place all h can e = none-laid n earlier can
 factors-laid zero n (byte ∷ rest) earlier place all h can e = absurd (not-suc-le-zero h)
@@ -169,16 +169,16 @@ factors-laid (suc k) n (byte ∷ rest) earlier place all h can e =
     next rest l = walk_records_from true n l (behind 1 (earlier ++ (factor_of rest ∷ []))) (place + 1) rest
 
     awaited : (t : Bool) → eqb byte factor_kind ≡ t
-        → go_on (cond (not t) (Stop (WrongKind place)) (form_step n (behind 1 earlier) byte place rest)) (λ l. walk_records_from true n l (passed (behind 1 earlier) byte rest) (place + 1) rest) ≡ Laid all
-        → (byte ≡ factor_kind) × (go_on (factor_step n 1 earlier 3 place rest) (next rest) ≡ Laid all)
+        → go_on (cond (not t) (Break (Err (WrongKind place))) (form_step n (behind 1 earlier) byte place rest)) (λ l. walk_records_from true n l (passed (behind 1 earlier) byte rest) (place + 1) rest) ≡ Ok all
+        → (byte ≡ factor_kind) × (go_on (factor_step n 1 earlier 3 place rest) (next rest) ≡ Ok all)
     awaited false q e = faulty refl e
     awaited true q e =
         let same = eqb-true byte factor_kind q in
         (same, rw (same, head_byte FactorKind place) at e)
 
     go : (rest : List ℕ) → length rest ≤ k
-        → ((rest : List ℕ) (earlier : List Factor) (place : ℕ) → length rest ≤ k → canonical earlier ≡ true → walk_records_from true n 0 (behind 1 earlier) place rest ≡ Laid all → FactorsLaid n rest earlier)
-        → byte ≡ factor_kind → go_on (factor_step n 1 earlier 3 place rest) (next rest) ≡ Laid all → FactorsLaid n (byte ∷ rest) earlier
+        → ((rest : List ℕ) (earlier : List Factor) (place : ℕ) → length rest ≤ k → canonical earlier ≡ true → walk_records_from true n 0 (behind 1 earlier) place rest ≡ Ok all → FactorsLaid n rest earlier)
+        → byte ≡ factor_kind → go_on (factor_step n 1 earlier 3 place rest) (next rest) ≡ Ok all → FactorsLaid n (byte ∷ rest) earlier
     go [] h later q e = absurd (not-suc-le-zero (factor-goes n 1 earlier place all [] (next []) e).1.0)
     go (a ∷ []) h later q e = absurd (omega (arith, (factor-goes n 1 earlier place all (a ∷ []) (next (a ∷ [])) e).1.0))
     go (a ∷ b ∷ []) h later q e = absurd (omega (arith, (factor-goes n 1 earlier place all (a ∷ b ∷ []) (next (a ∷ b ∷ [])) e).1.0))
@@ -200,17 +200,17 @@ no-factor : canonical [] ≡ true
 unfolding canonical
 no-factor = refl
 
-laid-product : (n : ℕ) (bytes : List ℕ) (all : ℕ) → walked_product n bytes ≡ Laid all → ProductLaid n bytes
+laid-product : (n : ℕ) (bytes : List ℕ) (all : ℕ) → walked_product n bytes ≡ Ok all → ProductLaid n bytes
 unfolding walked_product walk_by
 laid-product n [] all e = faulty refl e
 laid-product n (byte ∷ rest) all e = go (eqb byte product_kind) refl e
   where
     go : (t : Bool) → eqb byte product_kind ≡ t
-        → go_on (cond (not t) (Stop (WrongKind 0)) (form_step n (behind 0 []) byte 0 rest)) (λ l. walk_records_from true n l (passed (behind 0 []) byte rest) 1 rest) ≡ Laid all → ProductLaid n (byte ∷ rest)
+        → go_on (cond (not t) (Break (Err (WrongKind 0))) (form_step n (behind 0 []) byte 0 rest)) (λ l. walk_records_from true n l (passed (behind 0 []) byte rest) 1 rest) ≡ Ok all → ProductLaid n (byte ∷ rest)
     go false q e = faulty refl e
     go true q e =
         let same = eqb-true byte product_kind q in
-        let on : walk_records_from true n 0 (behind 1 []) 1 rest ≡ Laid all = rw (same, head_byte Product 0, le-leb 0 (length rest) (omega arith)) at e in
+        let on : walk_records_from true n 0 (behind 1 []) 1 rest ≡ Ok all = rw (same, head_byte Product 0, le-leb 0 (length rest) (omega arith)) at e in
         let l = factors-laid (length rest) n rest [] 1 all (le_refl (length rest)) no-factor on in
         record {
           some = omega arith;
@@ -224,20 +224,20 @@ pub product-laid : (n : ℕ) (bytes : List ℕ) → IsProduct n bytes → Produc
 product-laid n bytes h = go (walked_product n bytes) refl h
   where
     go : (found : Walk) → walked_product n bytes ≡ found → is_fault found ≡ false → ProductLaid n bytes
-    go (Laid all) e h = laid-product n bytes all e
-    go (WrongKind place) e h = clash refl h
-    go (Missing place) e h = clash refl h
-    go (WrongVariables place) e h = clash refl h
-    go (WrongFactor place) e h = clash refl h
-    go (NotCanonical place) e h = clash refl h
-    go (WrongCount place) e h = clash refl h
-    go (After place) e h = clash refl h
-    go (TooMany place) e h = clash refl h
+    go (Ok all) e h = laid-product n bytes all e
+    go (Err (WrongKind place)) e h = clash refl h
+    go (Err (Missing place)) e h = clash refl h
+    go (Err (WrongVariables place)) e h = clash refl h
+    go (Err (WrongFactor place)) e h = clash refl h
+    go (Err (NotCanonical place)) e h = clash refl h
+    go (Err (WrongCount place)) e h = clash refl h
+    go (Err (After place)) e h = clash refl h
+    go (Err (TooMany place)) e h = clash refl h
 
 -- ---- exactly the encodings are accepted
 
 factors-walked : (n : ℕ) (fs : List Factor) (earlier : List Factor) (place : ℕ) → AllFit n fs → canonical (earlier ++ fs) ≡ true
-    → walk_records_from true n 0 (behind 1 earlier) place (encode_factors fs) ≡ Laid 1
+    → walk_records_from true n 0 (behind 1 earlier) place (encode_factors fs) ≡ Ok 1
 unfolding encode_factors walk_by
 factors-walked n [] earlier place fit can = refl
 factors-walked n (f ∷ fs) earlier place fit can =
@@ -253,7 +253,7 @@ factors-walked n (f ∷ fs) earlier place fit can =
 pub encoded-product : (n : ℕ) (p : List Factor) → AllFit n p → Canonical p → IsProduct n (encode_product p)
 unfolding walked_product walk_by
 encoded-product n p fit can =
-    let found : walked_product n (encode_product p) ≡ Laid 1 = rw (head_byte Product 0, le-leb 0 (length (encode_factors p)) (omega arith)) (factors-walked n p [] 1 fit ((canonical-is p).1 can)) in
+    let found : walked_product n (encode_product p) ≡ Ok 1 = rw (head_byte Product 0, le-leb 0 (length (encode_factors p)) (omega arith)) (factors-walked n p [] 1 fit ((canonical-is p).1 can)) in
     ap is_fault found
 
 -- A list of bytes is accepted as a product of n variables exactly if it encodes a canonical one.

@@ -10,8 +10,9 @@ use Rattle.records.specs.Walks.{walk_by}
 use Rattle.table.specs.Table.{bad_count}
 use Rattle.product.specs.Lowest.{even_halvings, lowest}
 use Rattle.product.specs.Product.{fits, apart_masks, apart, agrees}
-use Rattle.records.specs.declared.Walk.TheVariants.{Laid, WrongKind, Missing, WrongVariables, WrongFactor, NotCanonical, WrongCount, After, TooMany}
 use Rattle.form.specs.Walk.{walked_form}
+use Rattle.table.specs.declared.BytesFault.TheVariants.{WrongKind, Missing, WrongVariables, WrongFactor, NotCanonical, WrongCount, After, TooMany}
+use Rattle.std.specs.Prelude.{Ok, Err}
 
 -- The forms of P1, P3 and P5.
 abbrev pub one : List ℕ
@@ -35,36 +36,36 @@ empties count = 0x4E ∷ 0x01 ∷ (replicate count 0x50 ++ (0x45 ∷ count ∷ 0
 
 pub record Examples : Type 0 where
   -- Forms.
-  pub p1 : walked_form one ≡ Laid 0
-  pub p3 : walked_form three ≡ Laid 1
-  pub p5 : walked_form five ≡ Laid 2
-  pub most-products : walked_form (empties 64) ≡ Laid 64
-  pub most-variables : walked_form (0x4E ∷ 12 ∷ 0x45 ∷ 0x00 ∷ 0x00 ∷ []) ≡ Laid 0
+  pub p1 : walked_form one ≡ Ok 0
+  pub p3 : walked_form three ≡ Ok 1
+  pub p5 : walked_form five ≡ Ok 2
+  pub most-products : walked_form (empties 64) ≡ Ok 64
+  pub most-variables : walked_form (0x4E ∷ 12 ∷ 0x45 ∷ 0x00 ∷ 0x00 ∷ []) ≡ Ok 0
   -- A kind that is unknown, or stands wrong: a factor before any product, a point.
-  pub unknown : walked_form (0x4E ∷ 0x04 ∷ 0x00 ∷ []) ≡ WrongKind 2
-  pub no-product : walked_form (0x4E ∷ 0x04 ∷ 0x58 ∷ 0x01 ∷ 0x04 ∷ 0x00 ∷ []) ≡ WrongKind 2
-  pub a_point : walked_form (0x4E ∷ 0x04 ∷ 0x4F ∷ 0x01 ∷ 0x00 ∷ 0x45 ∷ 0x01 ∷ 0x00 ∷ []) ≡ WrongKind 2
+  pub unknown : walked_form (0x4E ∷ 0x04 ∷ 0x00 ∷ []) ≡ Err (WrongKind 2)
+  pub no-product : walked_form (0x4E ∷ 0x04 ∷ 0x58 ∷ 0x01 ∷ 0x04 ∷ 0x00 ∷ []) ≡ Err (WrongKind 2)
+  pub a_point : walked_form (0x4E ∷ 0x04 ∷ 0x4F ∷ 0x01 ∷ 0x00 ∷ 0x45 ∷ 0x01 ∷ 0x00 ∷ []) ≡ Err (WrongKind 2)
   -- Bytes that are missing.
-  pub nothing : walked_form [] ≡ Missing 0
-  pub no-variables : walked_form (0x4E ∷ []) ≡ Missing 1
-  pub cut-factor : walked_form (0x4E ∷ 0x04 ∷ 0x50 ∷ 0x58 ∷ 0x02 ∷ []) ≡ Missing 5
-  pub no_end : walked_form (0x4E ∷ 0x04 ∷ 0x50 ∷ []) ≡ Missing 3
+  pub nothing : walked_form [] ≡ Err (Missing 0)
+  pub no-variables : walked_form (0x4E ∷ []) ≡ Err (Missing 1)
+  pub cut-factor : walked_form (0x4E ∷ 0x04 ∷ 0x50 ∷ 0x58 ∷ 0x02 ∷ []) ≡ Err (Missing 5)
+  pub no_end : walked_form (0x4E ∷ 0x04 ∷ 0x50 ∷ []) ≡ Err (Missing 3)
   -- n, constant and mask.
-  pub zero-variables : walked_form (0x4E ∷ 0x00 ∷ []) ≡ WrongVariables 1
-  pub many-variables : walked_form (0x4E ∷ 13 ∷ 0x45 ∷ 0x00 ∷ 0x00 ∷ []) ≡ WrongVariables 1
-  pub constant-two : walked_form (0x4E ∷ 0x04 ∷ 0x50 ∷ 0x58 ∷ 0x02 ∷ 0x04 ∷ 0x00 ∷ []) ≡ WrongFactor 4
-  pub mask-zero : walked_form (0x4E ∷ 0x04 ∷ 0x50 ∷ 0x58 ∷ 0x00 ∷ 0x00 ∷ 0x00 ∷ []) ≡ WrongFactor 4
-  pub mask-wide : walked_form (0x4E ∷ 0x04 ∷ 0x50 ∷ 0x58 ∷ 0x00 ∷ 0x10 ∷ 0x00 ∷ []) ≡ WrongFactor 4
-  pub fault-of-both : walked_form (pair 0x08 0x18) ≡ WrongFactor 8
+  pub zero-variables : walked_form (0x4E ∷ 0x00 ∷ []) ≡ Err (WrongVariables 1)
+  pub many-variables : walked_form (0x4E ∷ 13 ∷ 0x45 ∷ 0x00 ∷ 0x00 ∷ []) ≡ Err (WrongVariables 1)
+  pub constant-two : walked_form (0x4E ∷ 0x04 ∷ 0x50 ∷ 0x58 ∷ 0x02 ∷ 0x04 ∷ 0x00 ∷ []) ≡ Err (WrongFactor 4)
+  pub mask-zero : walked_form (0x4E ∷ 0x04 ∷ 0x50 ∷ 0x58 ∷ 0x00 ∷ 0x00 ∷ 0x00 ∷ []) ≡ Err (WrongFactor 4)
+  pub mask-wide : walked_form (0x4E ∷ 0x04 ∷ 0x50 ∷ 0x58 ∷ 0x00 ∷ 0x10 ∷ 0x00 ∷ []) ≡ Err (WrongFactor 4)
+  pub fault-of-both : walked_form (pair 0x08 0x18) ≡ Err (WrongFactor 8)
   -- Lowest bits that fall; that occur in the later mask; that rise; that stay.
-  pub falling : walked_form (pair 0x08 0x06) ≡ Laid 1
-  pub shared : walked_form (pair 0x08 0x0A) ≡ NotCanonical 8
-  pub rising : walked_form (pair 0x04 0x08) ≡ NotCanonical 8
-  pub equal : walked_form (pair 0x0C 0x04) ≡ NotCanonical 8
+  pub falling : walked_form (pair 0x08 0x06) ≡ Ok 1
+  pub shared : walked_form (pair 0x08 0x0A) ≡ Err (NotCanonical 8)
+  pub rising : walked_form (pair 0x04 0x08) ≡ Err (NotCanonical 8)
+  pub equal : walked_form (pair 0x0C 0x04) ≡ Err (NotCanonical 8)
   -- The number of products, a byte after the end, a product too many.
-  pub other-count : walked_form (0x4E ∷ 0x04 ∷ 0x45 ∷ 0x01 ∷ 0x00 ∷ 0x00 ∷ []) ≡ WrongCount 3
-  pub after : walked_form (one ++ (0x00 ∷ [])) ≡ After 5
-  pub too_many : walked_form (empties 65) ≡ TooMany 66
+  pub other-count : walked_form (0x4E ∷ 0x04 ∷ 0x45 ∷ 0x01 ∷ 0x00 ∷ 0x00 ∷ []) ≡ Err (WrongCount 3)
+  pub after : walked_form (one ++ (0x00 ∷ [])) ≡ Err (After 5)
+  pub too_many : walked_form (empties 65) ≡ Err (TooMany 66)
 
 pub examples : Examples
 unfolding walked_form walk_by head_of bad_count fits agrees apart apart_masks lowest even_halvings bit

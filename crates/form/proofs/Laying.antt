@@ -17,16 +17,16 @@ use Rattle.records.specs.Kinds.{kind_byte, variables_kind, product_kind, factor_
 use Rattle.records.proofs.KindBytes.{head_byte}
 use Rattle.table.specs.Table.{bad_count}
 use Rattle.product.specs.Product.{Factor, factor, fits, agrees}
-use Rattle.records.specs.declared.Walk.{Walk}
-use Rattle.records.specs.declared.Walk.TheVariants.{Laid, WrongKind, Missing, WrongVariables, WrongFactor, NotCanonical, WrongCount, After, TooMany}
-use Rattle.records.specs.declared.Step.{Step}
-use Rattle.records.specs.declared.Step.TheVariants.{Whole, Stop}
 use Rattle.records.specs.Walks.{body_step, after_end, end_step, go_on, walk_by, is_fault}
 use Rattle.records.proofs.Whole.{not-whole, body-length, faulty, head-goes}
 use Rattle.form.specs.Form.{max_products}
 use Rattle.form.specs.Decoding.{factor_of}
 use Rattle.form.specs.Walk.{variables_step, first_form_kind, product_step, judge_step, factor_step, behind, later_form_kind, passed, walk_form_from, walked_form}
 use Rattle.form.specs.Refusal.{IsForm}
+use Rattle.table.specs.declared.BytesFault.TheVariants.{WrongKind, Missing, WrongVariables, WrongFactor, NotCanonical, WrongCount, After, TooMany}
+use Rattle.records.specs.Walks.{Walk, Step}
+use Rattle.std.specs.Prelude.{Ok, Err}
+use Rattle.std.specs.declared.ops.ControlFlow.TheVariants.{Continue, Break}
 
 -- The bytes, with a number of products behind them and the factors of the last of these, are whole records of products and factors and
 -- the end, which gives the number of all products; each factor fits and agrees with those before it.
@@ -47,64 +47,64 @@ pub data LaidAs : List ℕ → ℕ → Type 0 where
 
 -- A test in front of a step: where it ends the walk with a fault, no form is found.
 module _ {all : ℕ} (s : Step) (w : Walk) (bad : is_fault w ≡ true) (next : ℕ → Walk) where
-  kept : (t : Bool) → go_on (cond t s (Stop w)) next ≡ Laid all → (t ≡ true) × (go_on s next ≡ Laid all)
+  kept : (t : Bool) → go_on (cond t s (Break w)) next ≡ Ok all → (t ≡ true) × (go_on s next ≡ Ok all)
   kept true e = (refl, e)
   kept false e = faulty bad e
 
-  left : (t : Bool) → go_on (cond t (Stop w) s) next ≡ Laid all → (t ≡ false) × (go_on s next ≡ Laid all)
+  left : (t : Bool) → go_on (cond t (Break w) s) next ≡ Ok all → (t ≡ false) × (go_on s next ≡ Ok all)
   left true e = faulty bad e
   left false e = (refl, e)
 
 module _ (products place all : ℕ) (next : ℕ → Walk) where
-  product-goes : (rest : List ℕ) → go_on (product_step products 0 place rest) next ≡ Laid all → (products < max_products) × (next 0 ≡ Laid all)
+  product-goes : (rest : List ℕ) → go_on (product_step products 0 place rest) next ≡ Ok all → (products < max_products) × (next 0 ≡ Ok all)
   product-goes rest e =
-      let h = kept (body_step 0 place rest) (TooMany place) refl next (ltb products max_products) e in
-      (ltb-true products max_products h.0, (kept (Whole 0) (Missing (place + 1 + length rest)) refl next (leb 0 (length rest)) h.1).1)
+      let h = kept (body_step 0 place rest) (Err (TooMany place)) refl next (ltb products max_products) e in
+      (ltb-true products max_products h.0, (kept (Continue 0) (Err (Missing (place + 1 + length rest))) refl next (leb 0 (length rest)) h.1).1)
 
 -- A body that is cut is a fault.
-body-stops : (m place : ℕ) (rest : List ℕ) (w : Walk) → body_step m place rest ≡ Stop w → is_fault w ≡ true
+body-stops : (m place : ℕ) (rest : List ℕ) (w : Walk) → body_step m place rest ≡ Break w → is_fault w ≡ true
 body-stops m place rest w = go (leb m (length rest))
   where
-    go : (t : Bool) → cond t (Whole m) (Stop (Missing (place + 1 + length rest))) ≡ Stop w → is_fault w ≡ true
+    go : (t : Bool) → cond t (Continue m) (Break (Err (Missing (place + 1 + length rest)))) ≡ Break w → is_fault w ≡ true
     go true e = not-whole (sym e)
-    go false e = let same : w ≡ Missing (place + 1 + length rest) = cc in ap is_fault same
+    go false e = let same : w ≡ Err (Missing (place + 1 + length rest)) = cc in ap is_fault same
 
 module _ (n products : ℕ) (earlier : List Factor) (place all : ℕ) (rest : List ℕ) (next : ℕ → Walk) where
-  judge-goes : (s : Step) → body_step 3 place rest ≡ s → go_on (judge_step s n earlier place (factor_of rest)) next ≡ Laid all
-      → (3 ≤ length rest) × (fits n (factor_of rest) ≡ true) × (agrees earlier (factor_of rest) ≡ true) × (next 3 ≡ Laid all)
-  judge-goes (Stop fault) p e = faulty (body-stops 3 place rest fault p) e
-  judge-goes (Whole m) p e =
+  judge-goes : (s : Step) → body_step 3 place rest ≡ s → go_on (judge_step s n earlier place (factor_of rest)) next ≡ Ok all
+      → (3 ≤ length rest) × (fits n (factor_of rest) ≡ true) × (agrees earlier (factor_of rest) ≡ true) × (next 3 ≡ Ok all)
+  judge-goes (Break fault) p e = faulty (body-stops 3 place rest fault p) e
+  judge-goes (Continue m) p e =
       let b = body-length 3 place rest m p in
-      let f = kept (cond (agrees earlier (factor_of rest)) (Whole m) (Stop (NotCanonical (place + 1)))) (WrongFactor (place + 1)) refl next (fits n (factor_of rest)) e in
-      let a = kept (Whole m) (NotCanonical (place + 1)) refl next (agrees earlier (factor_of rest)) f.1 in
+      let f = kept (cond (agrees earlier (factor_of rest)) (Continue m) (Break (Err (NotCanonical (place + 1))))) (Err (WrongFactor (place + 1))) refl next (fits n (factor_of rest)) e in
+      let a = kept (Continue m) (Err (NotCanonical (place + 1))) refl next (agrees earlier (factor_of rest)) f.1 in
       (b.1, f.0, a.0, sym (ap next b.0) ∙ a.1)
 
-  pub factor-goes : go_on (factor_step n products earlier 3 place rest) next ≡ Laid all
-      → (products ≢ 0) × ((3 ≤ length rest) × (fits n (factor_of rest) ≡ true) × (agrees earlier (factor_of rest) ≡ true) × (next 3 ≡ Laid all))
+  pub factor-goes : go_on (factor_step n products earlier 3 place rest) next ≡ Ok all
+      → (products ≢ 0) × ((3 ≤ length rest) × (fits n (factor_of rest) ≡ true) × (agrees earlier (factor_of rest) ≡ true) × (next 3 ≡ Ok all))
   factor-goes e =
-      let h = left (judge_step (body_step 3 place rest) n earlier place (factor_of rest)) (WrongKind place) refl next (eqb products 0) e in
+      let h = left (judge_step (body_step 3 place rest) n earlier place (factor_of rest)) (Err (WrongKind place)) refl next (eqb products 0) e in
       (eqb-false products 0 h.0, judge-goes (body_step 3 place rest) refl h.1)
 
-  end_goes : (s : Step) → body_step 2 place rest ≡ s → go_on (end_step s products place rest) next ≡ Laid all
-      → (2 ≤ length rest) × (word_of (get_or rest 0 0) (get_or rest 1 0) ≡ products) × (after_end products (place + 1 + 2) (drop 2 rest) ≡ Laid all)
-  end_goes (Stop fault) p e = faulty (body-stops 2 place rest fault p) e
-  end_goes (Whole m) p e =
+  end_goes : (s : Step) → body_step 2 place rest ≡ s → go_on (end_step s products place rest) next ≡ Ok all
+      → (2 ≤ length rest) × (word_of (get_or rest 0 0) (get_or rest 1 0) ≡ products) × (after_end products (place + 1 + 2) (drop 2 rest) ≡ Ok all)
+  end_goes (Break fault) p e = faulty (body-stops 2 place rest fault p) e
+  end_goes (Continue m) p e =
       let b = body-length 2 place rest m p in
       let h = numbered (eqb (word_of (get_or rest 0 0) (get_or rest 1 0)) products) e in
       (b.1, eqb-true (word_of (get_or rest 0 0) (get_or rest 1 0)) products h.0, sym (ap (λ (l : ℕ). after_end products (place + 1 + l) (drop l rest)) b.0) ∙ h.1)
     where
-      numbered : (t : Bool) → cond t (after_end products (place + 1 + m) (drop m rest)) (WrongCount (place + 1)) ≡ Laid all → (t ≡ true) × (after_end products (place + 1 + m) (drop m rest) ≡ Laid all)
+      numbered : (t : Bool) → cond t (after_end products (place + 1 + m) (drop m rest)) (Err (WrongCount (place + 1))) ≡ Ok all → (t ≡ true) × (after_end products (place + 1 + m) (drop m rest) ≡ Ok all)
       numbered true e = (refl, e)
       numbered false e = faulty refl e
 
 -- After the end nothing stands.
-nothing-after : (products place all : ℕ) (rest : List ℕ) → after_end products place rest ≡ Laid all → (rest ≡ []) × (products ≡ all)
+nothing-after : (products place all : ℕ) (rest : List ℕ) → after_end products place rest ≡ Ok all → (rest ≡ []) × (products ≡ all)
 nothing-after products place all [] e = (refl, cc)
 nothing-after products place all (b ∷ rest) e = faulty refl e
 
 -- The records from a place on, by the number of bytes that are left.
 laying-in : (k n : ℕ) (rest : List ℕ) (products : ℕ) (earlier : List Factor) (place all : ℕ) → length rest ≤ k
-    → walk_form_from n 0 (behind products earlier) place rest ≡ Laid all → Laying n rest products earlier all
+    → walk_form_from n 0 (behind products earlier) place rest ≡ Ok all → Laying n rest products earlier all
 unfolding walk_by
 laying-in zero n [] products earlier place all h e = faulty refl e
 laying-in zero n (byte ∷ rest) products earlier place all h e = absurd (not-suc-le-zero h)
@@ -112,11 +112,11 @@ laying-in (suc k) n [] products earlier place all h e = faulty refl e
 laying-in (suc k) n (byte ∷ rest) products earlier place all h e =
     let d = head-goes byte place (λ t l. later_form_kind n (behind products earlier) t l place rest) (λ l. walk_form_from n l (passed (behind products earlier) byte rest) (place + 1) rest) e in
     go d.0 d.1 rest (le_of_suc-le-suc h) (λ r p f l i g. laying-in k n r p f l all i g)
-    (subst (λ (b : ℕ). go_on (later_form_kind n (behind products earlier) d.0 (body_length d.0) place rest) (λ l. walk_form_from n l (passed (behind products earlier) b rest) (place + 1) rest) ≡ Laid all) d.1 d.2)
+    (subst (λ (b : ℕ). go_on (later_form_kind n (behind products earlier) d.0 (body_length d.0) place rest) (λ l. walk_form_from n l (passed (behind products earlier) b rest) (place + 1) rest) ≡ Ok all) d.1 d.2)
   where
     go : (t : Kind) → byte ≡ kind_byte t → (rest : List ℕ) → length rest ≤ k
-        → ((rest : List ℕ) (products : ℕ) (earlier : List Factor) (place : ℕ) → length rest ≤ k → walk_form_from n 0 (behind products earlier) place rest ≡ Laid all → Laying n rest products earlier all)
-        → go_on (later_form_kind n (behind products earlier) t (body_length t) place rest) (λ l. walk_form_from n l (passed (behind products earlier) (kind_byte t) rest) (place + 1) rest) ≡ Laid all → Laying n (byte ∷ rest) products earlier all
+        → ((rest : List ℕ) (products : ℕ) (earlier : List Factor) (place : ℕ) → length rest ≤ k → walk_form_from n 0 (behind products earlier) place rest ≡ Ok all → Laying n rest products earlier all)
+        → go_on (later_form_kind n (behind products earlier) t (body_length t) place rest) (λ l. walk_form_from n l (passed (behind products earlier) (kind_byte t) rest) (place + 1) rest) ≡ Ok all → Laying n (byte ∷ rest) products earlier all
     go Product q rest h later e =
         let g = product-goes products place all (λ l. walk_form_from n l (behind (products + 1) []) (place + 1) rest) rest e in
         begins q g.0 (later rest (products + 1) [] (place + 1) h g.1)
@@ -137,19 +137,19 @@ laying-in (suc k) n (byte ∷ rest) products earlier place all h e =
     go Free q rest h later e = faulty refl e
 
 -- The first record, then the others.
-pub laid : (bytes : List ℕ) (all : ℕ) → walked_form bytes ≡ Laid all → LaidAs bytes all
+pub laid : (bytes : List ℕ) (all : ℕ) → walked_form bytes ≡ Ok all → LaidAs bytes all
 unfolding walked_form walk_by
 laid [] all e = faulty refl e
 laid (byte ∷ rest) all e = let d = head-goes byte 0 (λ k l. first_form_kind k l rest) (λ l. walk_form_from (get_or rest 0 0) l (behind 0 []) 1 rest) e in go d.0 d.1 rest d.2
   where
-    first : (rest : List ℕ) (next : ℕ → Walk) (s : Step) → body_step 1 0 rest ≡ s → go_on (variables_step s rest) next ≡ Laid all → (1 ≤ length rest) × (bad_count (get_or rest 0 0) ≡ false) × (next 1 ≡ Laid all)
-    first rest next (Stop fault) p e = faulty (body-stops 1 0 rest fault p) e
-    first rest next (Whole m) p e =
+    first : (rest : List ℕ) (next : ℕ → Walk) (s : Step) → body_step 1 0 rest ≡ s → go_on (variables_step s rest) next ≡ Ok all → (1 ≤ length rest) × (bad_count (get_or rest 0 0) ≡ false) × (next 1 ≡ Ok all)
+    first rest next (Break fault) p e = faulty (body-stops 1 0 rest fault p) e
+    first rest next (Continue m) p e =
         let b = body-length 1 0 rest m p in
-        let h = left (Whole m) (WrongVariables 1) refl next (bad_count (get_or rest 0 0)) e in
+        let h = left (Continue m) (Err (WrongVariables 1)) refl next (bad_count (get_or rest 0 0)) e in
         (b.1, h.0, sym (ap next b.0) ∙ h.1)
 
-    go : (k : Kind) → byte ≡ kind_byte k → (rest : List ℕ) → go_on (first_form_kind k (body_length k) rest) (λ l. walk_form_from (get_or rest 0 0) l (behind 0 []) 1 rest) ≡ Laid all → LaidAs (byte ∷ rest) all
+    go : (k : Kind) → byte ≡ kind_byte k → (rest : List ℕ) → go_on (first_form_kind k (body_length k) rest) (λ l. walk_form_from (get_or rest 0 0) l (behind 0 []) 1 rest) ≡ Ok all → LaidAs (byte ∷ rest) all
     go Variables q [] e = absurd (not-suc-le-zero (first [] (λ l. walk_form_from 0 l (behind 0 []) 1 []) (body_step 1 0 []) refl e).0)
     go Variables q (n ∷ rest) e =
         let f = first (n ∷ rest) (λ l. walk_form_from n l (behind 0 []) 1 (n ∷ rest)) (body_step 1 0 (n ∷ rest)) refl e in
@@ -182,7 +182,7 @@ walk-longer {all = all} (form {n = n} {rest = rest} q b r) more =
     let e : 2 + length rest ≡ suc (suc (length rest)) = omega arith in
     rw (q, head_byte Variables 0, le-leb 1 (length (n ∷ (rest ++ more))) (omega arith), b) (walk-laying r 2 more ∙ ap (λ (p : ℕ). after_end all p more) e)
 
-pub walk-laid : {bytes : List ℕ} {all : ℕ} → LaidAs bytes all → walked_form bytes ≡ Laid all
+pub walk-laid : {bytes : List ℕ} {all : ℕ} → LaidAs bytes all → walked_form bytes ≡ Ok all
 walk-laid {bytes} l = ap walked_form (sym (append-nil bytes)) ∙ walk-longer l []
 
 pub is-form : {bytes : List ℕ} {all : ℕ} → LaidAs bytes all → IsForm bytes
@@ -192,12 +192,12 @@ pub form-laid : (bytes : List ℕ) → IsForm bytes → (all : ℕ) × LaidAs by
 form-laid bytes h = go (walked_form bytes) refl h
   where
     go : (found : Walk) → walked_form bytes ≡ found → is_fault found ≡ false → (all : ℕ) × LaidAs bytes all
-    go (Laid all) e h = (all, laid bytes all e)
-    go (WrongKind place) e h = clash refl h
-    go (Missing place) e h = clash refl h
-    go (WrongVariables place) e h = clash refl h
-    go (WrongFactor place) e h = clash refl h
-    go (NotCanonical place) e h = clash refl h
-    go (WrongCount place) e h = clash refl h
-    go (After place) e h = clash refl h
-    go (TooMany place) e h = clash refl h
+    go (Ok all) e h = (all, laid bytes all e)
+    go (Err (WrongKind place)) e h = clash refl h
+    go (Err (Missing place)) e h = clash refl h
+    go (Err (WrongVariables place)) e h = clash refl h
+    go (Err (WrongFactor place)) e h = clash refl h
+    go (Err (NotCanonical place)) e h = clash refl h
+    go (Err (WrongCount place)) e h = clash refl h
+    go (Err (After place)) e h = clash refl h
+    go (Err (TooMany place)) e h = clash refl h

@@ -11,9 +11,6 @@ use lib.Seq.{length-take-le, get_or-take}
 use borrow.Author.Tests.{ltb-true, ltb-false, le-leb, lt-leb, leb-false}
 use Rattle.records.specs.declared.Kind.{Kind}
 use Rattle.records.specs.declared.Kind.TheVariants.{Variables, Product, Factor as FactorKind, End, On, Free}
-use Rattle.records.specs.declared.Walk.TheVariants.{Laid}
-use Rattle.records.specs.declared.Step.{Step}
-use Rattle.records.specs.declared.Step.TheVariants.{Whole, Stop}
 use Rattle.records.specs.Kinds.{kind_byte, body_length, known, head_of, Bytes, encode_end}
 use Rattle.records.specs.Walks.{head_step, body_step, go_on, walk_by}
 use Rattle.records.specs.Faults.{Record, record_of, IsWhole, records_bytes, place_after, is_end, ended, record_count, counted_in}
@@ -30,6 +27,9 @@ use Rattle.form.specs.Decoding.{factor_of}
 use Rattle.form.specs.Walk.{variables_step, first_form_kind, first_form_step, product_step, factor_step, Behind, behind, later_form_kind, form_step, passed, walk_form_from, walked_form}
 use Rattle.form.specs.Faults.{is_product, products_in, later_admits, form_admits, variables_in, factors_passed, factors_since, last_factors, form_rules}
 use Rattle.form.proofs.Walking.{first-whole, product_whole, factor-whole, end_whole}
+use Rattle.records.specs.Walks.{Step}
+use Rattle.std.specs.Prelude.{Ok}
+use Rattle.std.specs.declared.ops.ControlFlow.TheVariants.{Continue, Break}
 
 -- ---- the two walks agree
 
@@ -94,7 +94,7 @@ factors-snoc earlier [] r = refl
 factors-snoc earlier (c ∷ before) r = factors-snoc (factors_passed earlier c.kind c.body) before r
 
 -- A record that is passed lies behind both walks.
-again : (n : ℕ) (b : Behind) (before : List Record) (byte place : ℕ) (rest : List ℕ) (l : ℕ) → Alike n b before place → form_step n b byte place rest ≡ Whole l
+again : (n : ℕ) (b : Behind) (before : List Record) (byte place : ℕ) (rest : List ℕ) (l : ℕ) → Alike n b before place → form_step n b byte place rest ≡ Continue l
     → Alike n (passed b byte rest) (pushed before byte rest) (place + 1 + l)
 again n b before byte place rest l a e =
     let h = head-whole byte place (λ k m. later_form_kind n b k m place rest) e in
@@ -102,7 +102,7 @@ again n b before byte place rest l a e =
     subst (λ (c : List Record). Alike n (passed b byte rest) c (place + 1 + l)) (sym same)
     (subst (λ (x : ℕ). Alike n (passed b x rest) (before ++ (record_of h.0 (take (body_length h.0) rest) ∷ [])) (place + 1 + l)) (sym h.1) (kinds h.0 h.2))
   where
-    kinds : (kind : Kind) → later_form_kind n b kind (body_length kind) place rest ≡ Whole l
+    kinds : (kind : Kind) → later_form_kind n b kind (body_length kind) place rest ≡ Continue l
         → Alike n (passed b (kind_byte kind) rest) (before ++ (record_of kind (take (body_length kind) rest) ∷ [])) (place + 1 + l)
     kinds Product q =
         let w = product_whole b.products place rest l q in
@@ -159,7 +159,7 @@ first-same byte rest =
     kinds On = refl
     kinds Free = refl
 
-begins-alike : (byte : ℕ) (rest : List ℕ) (l : ℕ) → first_form_step byte rest ≡ Whole l → Alike (get_or rest 0 0) (behind 0 []) (pushed [] byte rest) (1 + l)
+begins-alike : (byte : ℕ) (rest : List ℕ) (l : ℕ) → first_form_step byte rest ≡ Continue l → Alike (get_or rest 0 0) (behind 0 []) (pushed [] byte rest) (1 + l)
 unfolding records_bytes ended record_count factors_since
 begins-alike byte rest l e =
     let h = head-whole byte 0 (λ k m. first_form_kind k m rest) e in
@@ -167,7 +167,7 @@ begins-alike byte rest l e =
     let same : pushed [] byte rest ≡ record_of h.0 (take (body_length h.0) rest) ∷ [] = ap (λ (b : ℕ). pushed [] b rest) h.1 ∙ pushed-kind [] h.0 rest in
     subst (λ (b : List Record). Alike (get_or rest 0 0) (behind 0 []) b (1 + l)) (sym same) (kinds h.0 h.2 w.0 w.1)
   where
-    kinds : (kind : Kind) → first_form_kind kind (body_length kind) rest ≡ Whole l → l ≡ 1 → 1 ≤ length rest → Alike (get_or rest 0 0) (behind 0 []) (record_of kind (take (body_length kind) rest) ∷ []) (1 + l)
+    kinds : (kind : Kind) → first_form_kind kind (body_length kind) rest ≡ Continue l → l ≡ 1 → 1 ≤ length rest → Alike (get_or rest 0 0) (behind 0 []) (record_of kind (take (body_length kind) rest) ∷ []) (1 + l)
     kinds Variables q one there =
         let r = record_of Variables (take 1 rest) in
         record {
@@ -193,8 +193,8 @@ form-ruled (byte ∷ rest) = rw (sym (first-same byte rest)) (go (first_form_ste
   where
     go : (s : Step) → first_form_step byte rest ≡ s
         → go_on s (λ l. walk_form_from (get_or rest 0 0) l (behind 0 []) 1 rest) ≡ go_on s (λ l. walk_rules form_rules l (pushed [] byte rest) 1 rest)
-    go (Stop w) e = refl
-    go (Whole l) e =
+    go (Break w) e = refl
+    go (Continue l) e =
         let n = get_or rest 0 0 in
         walk-alike (form_step n) passed (rule_step form_rules) pushed (Alike n) (later_same n) (again n) l (behind 0 []) (pushed [] byte rest) 1 rest (begins-alike byte rest l e)
 
@@ -232,14 +232,14 @@ keeps before r (inr k) w l a s n =
     more false q = omega (arith, k.few)
 
 -- The shortest input is a form.
-shortest-laid : walked_form shortest ≡ Laid 0
+shortest-laid : walked_form shortest ≡ Ok 0
 unfolding walked_form walk_by head_of bad_count
 shortest-laid = refl
 
 -- Any such records can be followed by the end; before all of them stands n.
-completes : (before : List Record) → Before before → ended before ≡ false → false ≡ false → (more : List ℕ) × Bytes more × (count : ℕ) × (walk_after form_rules before more ≡ Laid count)
+completes : (before : List Record) → Before before → ended before ≡ false → false ≡ false → (more : List ℕ) × Bytes more × (count : ℕ) × (walk_after form_rules before more ≡ Ok count)
 unfolding records_bytes
-completes before (inl e) a l = (shortest, shortest-bytes, 0, subst (λ (b : List Record). walk_after form_rules b shortest ≡ Laid 0) (sym e) (sym (form-ruled shortest) ∙ shortest-laid))
+completes before (inl e) a l = (shortest, shortest-bytes, 0, subst (λ (b : List Record). walk_after form_rules b shortest ≡ Ok 0) (sym e) (sym (form-ruled shortest) ∙ shortest-laid))
 completes before (inr k) a l =
     let count = counted_in form_rules before in
     let ends : form_admits before End ≡ true = ap (λ (b : List Record). form_admits b End) k.begins in

@@ -11,7 +11,7 @@ use native.Mathlib.Omega.{arith}
 use lib.Dec.{ltb, eqb}
 use borrow.Author.Tests.{ltb-true}
 use lib.ListN.{length, drop, get_or, length-drop}
-use lib.Seq.{drop-drop, get_or-drop}
+use lib.Seq.{drop-drop}
 use Rattle.gf2.proofs.Logic.{and-true}
 use Rattle.gf2.proofs.Finite.{mem-snoc, snoc-mem}
 use Rattle.records.specs.declared.Kind.{Kind}
@@ -19,12 +19,8 @@ use Rattle.records.specs.declared.Kind.TheVariants.{Variables, Product, Factor a
 use Rattle.records.specs.Kinds.{kind_byte, body_length}
 use Rattle.records.proofs.Walking.{pass}
 use Rattle.table.specs.Table.{bad_count}
-use Rattle.product.specs.Product.{Factor, factor, AllFit, fits, apart_masks, apart, agrees}
+use Rattle.product.specs.Product.{Factor, AllFit, fits, apart_masks, apart, agrees}
 use Rattle.product.proofs.Product.{fits-is}
-use Rattle.records.specs.declared.Walk.{Walk}
-use Rattle.records.specs.declared.Walk.TheVariants.{WrongKind, Missing, WrongVariables, WrongFactor, NotCanonical, TooMany}
-use Rattle.records.specs.declared.Step.{Step}
-use Rattle.records.specs.declared.Step.TheVariants.{Whole, Stop}
 use Rattle.records.specs.Walks.{body_step, end_step, bytes_missing}
 use Rattle.records.proofs.Whole.{body-length, failed-test, head-whole, not-whole, passed-test}
 use Rattle.form.specs.declared.Counts.{Counts}
@@ -32,20 +28,24 @@ use Rattle.form.specs.Form.{max_products}
 use Rattle.form.specs.Decoding.{factor_of}
 use Rattle.form.specs.Walk.{variables_step, first_form_kind, first_form_step, product_step, judge_step, factor_step, Behind, behind, later_form_kind, form_step, passed, walk_form_from, walked_form}
 use Rattle.form.specs.Counting.{factor_length, factors_before, behind_by, counts_after, Counted}
+use Rattle.table.specs.declared.BytesFault.TheVariants.{WrongKind, Missing, WrongVariables, WrongFactor, NotCanonical, TooMany}
+use Rattle.records.specs.Walks.{Walk, Step}
+use Rattle.std.specs.Prelude.{Err}
+use Rattle.std.specs.declared.ops.ControlFlow.TheVariants.{Continue, Break}
 
 -- The first: its body is one byte, and n is that of a table.
-pub first-whole : (byte : ℕ) (rest : List ℕ) (l : ℕ) → first_form_step byte rest ≡ Whole l → (l ≡ 1) × (1 ≤ length rest) × (bad_count (get_or rest 0 0) ≡ false)
+pub first-whole : (byte : ℕ) (rest : List ℕ) (l : ℕ) → first_form_step byte rest ≡ Continue l → (l ≡ 1) × (1 ≤ length rest) × (bad_count (get_or rest 0 0) ≡ false)
 first-whole byte rest l e = let h = head-whole byte 0 (λ k m. first_form_kind k m rest) e in kinds h.0 h.2
   where
-    go : (s : Step) → body_step 1 0 rest ≡ s → variables_step s rest ≡ Whole l → (l ≡ 1) × (1 ≤ length rest) × (bad_count (get_or rest 0 0) ≡ false)
-    go (Stop fault) p q = not-whole q
-    go (Whole m) p q =
-        let h = failed-test (bad_count (get_or rest 0 0)) (Whole m) (WrongVariables 1) q in
+    go : (s : Step) → body_step 1 0 rest ≡ s → variables_step s rest ≡ Continue l → (l ≡ 1) × (1 ≤ length rest) × (bad_count (get_or rest 0 0) ≡ false)
+    go (Break fault) p q = not-whole q
+    go (Continue m) p q =
+        let h = failed-test (bad_count (get_or rest 0 0)) (Continue m) (Err (WrongVariables 1)) q in
         let b = body-length 1 0 rest m p in
         let same : l ≡ m = cc h.1 in
         (same ∙ b.0, b.1, h.0)
 
-    kinds : (k : Kind) → first_form_kind k (body_length k) rest ≡ Whole l → (l ≡ 1) × (1 ≤ length rest) × (bad_count (get_or rest 0 0) ≡ false)
+    kinds : (k : Kind) → first_form_kind k (body_length k) rest ≡ Continue l → (l ≡ 1) × (1 ≤ length rest) × (bad_count (get_or rest 0 0) ≡ false)
     kinds Variables q = go (body_step 1 0 rest) refl q
     kinds Product q = not-whole q
     kinds FactorKind q = not-whole q
@@ -54,9 +54,9 @@ first-whole byte rest l e = let h = head-whole byte 0 (λ k m. first_form_kind k
     kinds Free q = not-whole q
 
 -- A product: it has no body, and there are not too many.
-pub product_whole : (products place : ℕ) (rest : List ℕ) (l : ℕ) → product_step products 0 place rest ≡ Whole l → (l ≡ 0) × (products < max_products)
+pub product_whole : (products place : ℕ) (rest : List ℕ) (l : ℕ) → product_step products 0 place rest ≡ Continue l → (l ≡ 0) × (products < max_products)
 product_whole products place rest l e =
-    let h = passed-test (ltb products max_products) (body_step 0 place rest) (TooMany place) e in
+    let h = passed-test (ltb products max_products) (body_step 0 place rest) (Err (TooMany place)) e in
     ((body-length 0 place rest l h.1).0, ltb-true products max_products h.0)
 
 -- A factor: a product has begun, its body is three bytes, it fits and agrees.
@@ -67,27 +67,27 @@ pub record WholeFactor (n products : ℕ) (earlier : List Factor) (rest : List �
   pub fitting : fits n (factor_of rest) ≡ true
   pub agreeing : agrees earlier (factor_of rest) ≡ true
 
-pub factor-whole : (n products : ℕ) (earlier : List Factor) (place : ℕ) (rest : List ℕ) (l : ℕ) → factor_step n products earlier 3 place rest ≡ Whole l → WholeFactor n products earlier rest l
+pub factor-whole : (n products : ℕ) (earlier : List Factor) (place : ℕ) (rest : List ℕ) (l : ℕ) → factor_step n products earlier 3 place rest ≡ Continue l → WholeFactor n products earlier rest l
 factor-whole n products earlier place rest l e =
-    let h = failed-test (eqb products 0) (judge_step (body_step 3 place rest) n earlier place (factor_of rest)) (WrongKind place) e in
+    let h = failed-test (eqb products 0) (judge_step (body_step 3 place rest) n earlier place (factor_of rest)) (Err (WrongKind place)) e in
     go h.0 (body_step 3 place rest) refl h.1
   where
-    go : eqb products 0 ≡ false → (s : Step) → body_step 3 place rest ≡ s → judge_step s n earlier place (factor_of rest) ≡ Whole l → WholeFactor n products earlier rest l
-    go i (Stop fault) p q = not-whole q
-    go i (Whole m) p q =
-        let f = passed-test (fits n (factor_of rest)) (cond (agrees earlier (factor_of rest)) (Whole m) (Stop (NotCanonical (place + 1)))) (WrongFactor (place + 1)) q in
-        let a = passed-test (agrees earlier (factor_of rest)) (Whole m) (NotCanonical (place + 1)) f.1 in
+    go : eqb products 0 ≡ false → (s : Step) → body_step 3 place rest ≡ s → judge_step s n earlier place (factor_of rest) ≡ Continue l → WholeFactor n products earlier rest l
+    go i (Break fault) p q = not-whole q
+    go i (Continue m) p q =
+        let f = passed-test (fits n (factor_of rest)) (cond (agrees earlier (factor_of rest)) (Continue m) (Break (Err (NotCanonical (place + 1))))) (Err (WrongFactor (place + 1))) q in
+        let a = passed-test (agrees earlier (factor_of rest)) (Continue m) (Err (NotCanonical (place + 1))) f.1 in
         let b = body-length 3 place rest m p in
         let same : l ≡ m = cc a.1 in
         record { long = same ∙ b.0; there = b.1; inside = i; fitting = f.0; agreeing = a.0 }
 
 -- The end is never passed.
-pub end_whole : {A : Type 0} (s : Step) (products place : ℕ) (rest : List ℕ) (l : ℕ) → end_step s products place rest ≡ Whole l → A
-end_whole (Stop fault) products place rest l e = not-whole e
-end_whole (Whole m) products place rest l e = not-whole e
+pub end_whole : {A : Type 0} (s : Step) (products place : ℕ) (rest : List ℕ) (l : ℕ) → end_step s products place rest ≡ Continue l → A
+end_whole (Break fault) products place rest l e = not-whole e
+end_whole (Continue m) products place rest l e = not-whole e
 
 -- Any record that is passed leaves its body behind.
-kind-whole : (n : ℕ) (b : Behind) (k : Kind) (place : ℕ) (rest : List ℕ) (l : ℕ) → later_form_kind n b k (body_length k) place rest ≡ Whole l → l ≤ length rest
+kind-whole : (n : ℕ) (b : Behind) (k : Kind) (place : ℕ) (rest : List ℕ) (l : ℕ) → later_form_kind n b k (body_length k) place rest ≡ Continue l → l ≤ length rest
 kind-whole n b Product place rest l e = let h = product_whole b.products place rest l e in omega (arith, h.0)
 kind-whole n b FactorKind place rest l e = let h = factor-whole n b.products b.factors place rest l e in omega (arith, h.long, h.there)
 kind-whole n b End place rest l e = end_whole (body_step 2 place rest) b.products place rest l e
@@ -95,31 +95,25 @@ kind-whole n b Variables place rest l e = not-whole e
 kind-whole n b On place rest l e = not-whole e
 kind-whole n b Free place rest l e = not-whole e
 
-pub record-whole : (n : ℕ) (b : Behind) (byte place : ℕ) (rest : List ℕ) (l : ℕ) → form_step n b byte place rest ≡ Whole l → l ≤ length rest
+pub record-whole : (n : ℕ) (b : Behind) (byte place : ℕ) (rest : List ℕ) (l : ℕ) → form_step n b byte place rest ≡ Continue l → l ≤ length rest
 record-whole n b byte place rest l e =
     let h = head-whole byte place (λ k m. later_form_kind n b k m place rest) e in
     kind-whole n b h.0 place rest l h.2
 
--- The factor whose record begins at a place: its constant is the first byte of its body.
-pub factor-read : (bytes : List ℕ) (place : ℕ) → factor (get_or bytes (place + 1) 0) (factor_of (drop (place + 1) bytes)).mask ≡ factor_of (drop (place + 1) bytes)
-factor-read bytes place =
-    let same : place + 1 + 0 ≡ place + 1 = omega arith in
-    ap (λ (constant : ℕ). factor constant (factor_of (drop (place + 1) bytes)).mask) (sym (get_or-drop (place + 1) bytes 0 0 ∙ ap (λ (p : ℕ). get_or bytes p 0) same))
-
 -- ---- the walk over a whole input
 
 -- It ends at the first record, or goes on after it.
-pub walk_none : (s : List ℕ) → length s ≡ 0 → walked_form s ≡ Missing 0
+pub walk_none : (s : List ℕ) → length s ≡ 0 → walked_form s ≡ Err (Missing 0)
 unfolding walked_form
 walk_none [] h = refl
 walk_none (c ∷ rest) h = absurd (omega arith)
 
-pub first_ends : (s : List ℕ) (w : Walk) → 0 < length s → first_form_step (get_or s 0 0) (drop 1 s) ≡ Stop w → walked_form s ≡ w
+pub first_ends : (s : List ℕ) (w : Walk) → 0 < length s → first_form_step (get_or s 0 0) (drop 1 s) ≡ Break w → walked_form s ≡ w
 unfolding walked_form
 first_ends [] w h e = absurd (not-suc-le-zero h)
 first_ends (c ∷ rest) w h e = rw e
 
-pub first_goes : (s : List ℕ) (l : ℕ) → 0 < length s → first_form_step (get_or s 0 0) (drop 1 s) ≡ Whole l
+pub first_goes : (s : List ℕ) (l : ℕ) → 0 < length s → first_form_step (get_or s 0 0) (drop 1 s) ≡ Continue l
     → walked_form s ≡ walk_form_from (get_or s 1 0) 0 (behind 0 []) (1 + l) (drop (1 + l) s)
 unfolding walked_form
 first_goes [] l h e = absurd (not-suc-le-zero h)
@@ -151,7 +145,7 @@ unfolding factors_before
 no-factors bytes place = refl
 
 module _ (n : ℕ) (bytes : List ℕ) (counts : Counts) (place : ℕ) (c : Counted n bytes counts place) (h : place < length bytes) where
-  carried-kind : (k : Kind) (l : ℕ) → later_form_kind n (behind_by bytes counts place) k (body_length k) place (drop (place + 1) bytes) ≡ Whole l → Carried n bytes (kind_byte k) counts place l
+  carried-kind : (k : Kind) (l : ℕ) → later_form_kind n (behind_by bytes counts place) k (body_length k) place (drop (place + 1) bytes) ≡ Continue l → Carried n bytes (kind_byte k) counts place l
   carried-kind Product l e =
       let w = product_whole counts.products place (drop (place + 1) bytes) l e in
       record {
@@ -182,7 +176,7 @@ module _ (n : ℕ) (bytes : List ℕ) (counts : Counts) (place : ℕ) (c : Count
   carried-kind On l e = not-whole e
   carried-kind Free l e = not-whole e
 
-  pub carried : (byte l : ℕ) → form_step n (behind_by bytes counts place) byte place (drop (place + 1) bytes) ≡ Whole l → Carried n bytes byte counts place l
+  pub carried : (byte l : ℕ) → form_step n (behind_by bytes counts place) byte place (drop (place + 1) bytes) ≡ Continue l → Carried n bytes byte counts place l
   carried byte l e =
       let h = head-whole byte place (λ k m. later_form_kind n (behind_by bytes counts place) k m place (drop (place + 1) bytes)) e in
       subst (λ (kind : ℕ). Carried n bytes kind counts place l) (sym h.1) (carried-kind h.0 l h.2)

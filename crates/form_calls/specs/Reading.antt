@@ -1,7 +1,9 @@
 -- The answers of the calls that read a form, and what stands in the lent rooms afterwards (document 01, "Refusal numbers").
 -- Read next: crate `cover`.
 use Rattle.std.specs.Prelude.{List, ◌++◌, ℕ, length}
+use Rattle.table.specs.declared.Refusal.{Refusal}
 use Rattle.table.specs.Refusal.{Test, first_place}
+use Rattle.table.specs.Answers.{number_of, place_of}
 use Rattle.table.specs.Decision.{Decision, answer_of, after_of, room_test}
 use Rattle.form.specs.Form.{form_points}
 use Rattle.form.specs.Encoding.{encode_form}
@@ -25,6 +27,9 @@ points_accepted bytes = record { refusal = 0; place = 0; variables = form_variab
 -- A refusal returns its number and its place with all other numbers 0 (document 01, "Refusal numbers"; document 02, No. 3).
 abbrev pub points_refused : ℕ → ℕ → FormPoints
 points_refused place number = record { refusal = number; place = place; variables = 0; count = 0 }
+
+abbrev pub refused_points : Refusal → FormPoints
+refused_points refusal = points_refused (place_of refusal) (number_of refusal)
 
 -- The call, and the numbers that it returns.
 abbrev pub points_call : List ℕ → List ℕ → Decision FormPoints
@@ -53,6 +58,9 @@ rewrite_accepted bytes = record { refusal = 0; place = 0; length = length (rewri
 -- A refusal returns its number and its place with the length 0.
 abbrev pub rewrite_refused : ℕ → ℕ → FormRewrite
 rewrite_refused place number = record { refusal = number; place = place; length = 0 }
+
+abbrev pub refused_rewrite : Refusal → FormRewrite
+refused_rewrite refusal = rewrite_refused (place_of refusal) (number_of refusal)
 
 -- The call, and the numbers that it returns.
 abbrev pub rewrite_call : List ℕ → List ℕ → Decision FormRewrite

@@ -26,14 +26,14 @@ pub fn lead(v: u16) -> u32
     requires { 0 < v }
     ensures { result ≡ lead v }
 {
-    HIGHEST_PLACE - u16::leading_zeros(v)
+    HIGHEST_PLACE - v.leading_zeros()
 }
 
 // Whether the number of mask bits set in the point is odd, by its count of ones.
 pub fn parity(mask: u16, point: u16) -> bool
     ensures { result ≡ odd mask point }
 {
-    u16::count_ones(mask & point) % 2 == 1
+    (mask & point).count_ones() % 2 == 1
 }
 
 // x with the lead bit of b cleared by XOR with b. The bit is set in x exactly if that makes x smaller.
@@ -42,5 +42,5 @@ pub fn clear_lead(b: u16, x: u16) -> u16
     ensures { result ≡ clear b x }
 {
     let cleared = x ^ b;
-    if cleared < x { cleared } else { x }
+    cleared.min(x)
 }

@@ -8,7 +8,6 @@ ghost use Rattle.streams.specs.Reading.{StartOf};
 ghost use Rattle.glospruma_report.specs.Printing.{stored_room, WholeReport};
 
 use report::TEXT_ROOM;
-use streams::Input;
 
 // One byte more than the longest table: a longer input isn't laid out as a table, whatever follows. As `stored_room` in specs/.
 const STORED_ROOM: usize = stored::LONGEST_TABLE + 1;
@@ -27,7 +26,7 @@ fn report_of(input: &[u8], count: usize, text: &mut [u8]) -> usize
 
 fn main(rt: HostRuntime) {
     let mut input = [0u8; STORED_ROOM];
-    let Input::Bytes(count) = streams::read_input(&rt, &mut input) else {
+    let Ok(count) = streams::read_input(&rt, &mut input) else {
         return;
     };
     let mut text = [0u8; TEXT_ROOM];

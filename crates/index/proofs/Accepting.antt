@@ -11,10 +11,10 @@ use lib.ListN.{length, length-append}
 use borrow.Author.Tests.{ltb-false, le-ltb}
 use Rattle.gf2.specs.Finite.{Mem}
 use Rattle.gf2.proofs.Finite.{mem-snoc, snoc-mem}
-use Rattle.table.specs.declared.Fault.{Fault}
+use Rattle.table.specs.Refusal.{Fault}
 use Rattle.table.specs.Refusal.{test, first_fault, room_fault}
 use Rattle.table.specs.Decision.{front, room_test}
-use Rattle.table.proofs.Refusal.{none_both, none-next}
+use Rattle.table.proofs.FirstFault.{none_both, none-next}
 use Rattle.table.proofs.Decide.{decide-accepted, decide-refused, decide-number}
 use Rattle.product.specs.Product.{Factor}
 use Rattle.form.specs.Form.{max_products}

@@ -14,10 +14,10 @@ use lib.ListN.{length, get_or, drop, length-append}
 use borrow.Author.Tests.{eq-eqb, ne_eqb, le-ltb, ltb-false}
 use Rattle.gf2.specs.Limits.{max_variables}
 use Rattle.gf2.proofs.Finite.{all-at}
-use Rattle.table.specs.declared.Fault.{Fault}
+use Rattle.table.specs.Refusal.{Fault}
 use Rattle.table.specs.Refusal.{Test, first_fault, first_place, fault_at, fault_of, Numbered, room_fault, records_fault}
 use Rattle.table.specs.Decision.{decide, answer_of, front, room_test}
-use Rattle.table.proofs.Refusal.{none_both}
+use Rattle.table.proofs.FirstFault.{none_both}
 use Rattle.table.proofs.Decide.{decide-accepted, decide-refused, decide-number}
 use Rattle.records.specs.Kinds.{word_record_length}
 use Rattle.product.specs.Product.{Factor}

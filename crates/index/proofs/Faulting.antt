@@ -9,33 +9,33 @@ use lib.Dec.{eqb, ltb, leb}
 use lib.ListN.{length}
 use borrow.Author.Tests.{eq-eqb, ne_eqb, eqb-false, le-leb, lt-leb, leb-false, ltb-false}
 use Rattle.gf2.specs.Finite.{holds}
-use Rattle.table.specs.declared.Fault.{Fault}
+use Rattle.table.specs.Refusal.{Fault}
 use Rattle.table.specs.Refusal.{Test, test, test_at, first_fault, first_place, fault_at, fault_of, Numbered, room_fault, empty_form_fault, records_fault, too_many_products_fault}
+use Rattle.std.specs.Prelude.{Result, Err}
+use Rattle.table.specs.declared.Refusal.{Refusal}
+use Rattle.table.specs.Answers.{number_of, place_of, fault_from}
 use Rattle.table.specs.Decision.{answer_of}
+use Rattle.table.proofs.Results.{number-nonzero}
 use Rattle.table.proofs.Decide.{decide-accepted, decide-refused, PlacedWays, placed-ways}
-use Rattle.table.proofs.Refusal.{numbered, fault-append, fault-before, none_both, place-append, place-before}
+use Rattle.table.proofs.FirstFault.{numbered, fault-append, fault-before, none_both, place-append, place-before}
 use Rattle.form.specs.Form.{max_products, Form}
 use Rattle.form.specs.Decoding.{form_variables, form_products}
 use Rattle.form.specs.Refusal.{IsForm, form_tests, form_fault, IsProduct, product_tests, product_fault}
 use Rattle.form.proofs.Accepting.{accepted-form, form-numbered}
 use Rattle.form.proofs.Alone.{accepted-product, product-numbered}
-use Rattle.index.specs.declared.Indexed.{Indexed}
-use Rattle.index.specs.Answers.{index_accepted, index_refused, index_call, list_test, list_tests, build_tests, full_test, append_tests, appended_form, appended_bytes, append_answer_by, append_after_by, empty_test, remove_tests, removed_form, removed_bytes, remove_answer_by, remove_after_by}
+use Rattle.index.specs.Answers.{index_accepted, index_refused, refused_index, index_call, list_test, list_tests, build_tests, full_test, append_tests, appended_form, appended_bytes, append_answer_by, append_after_by, empty_test, remove_tests, removed_form, removed_bytes, remove_answer_by, remove_after_by}
 
-module _ (form : List ℕ) {found : Fault} (e : found ≡ fault_of (form_tests form)) where
-  number : found.number ≡ form_fault form
-  unfolding form_fault
-  number = ap (λ (f : Fault). f.number) e
+-- A refusal by its number and its place, as the result of a call hands it on.
+abbrev pub told_by : Refusal → Fault
+told_by refusal = fault_at (number_of refusal) (place_of refusal)
 
-  pub found-form : found.number ≡ 0 → (form_fault form ≡ 0) × IsForm form
-  found-form z = let none = sym number ∙ z in (none, (accepted-form form).0 none)
+pub handed-on : {A : Type 0} {result : Result A Refusal} {refusal other : Refusal} → result ≡ Err refusal → refusal ≡ other → fault_from result ≡ told_by other
+handed-on p q = ap fault_from (p ∙ ap Err q)
 
-  pub found_number : found.number ≢ 0 → form_fault form ≢ 0
-  found_number n z = n (number ∙ z)
-
-pub found-product : (n : ℕ) (product : List ℕ) {found : Fault} → found ≡ fault_of (product_tests n product) → found.number ≡ 0 → (product_fault n product ≡ 0) × IsProduct n product
+-- Where nothing is found of a product it is one.
+pub product-sound : (n : ℕ) (product : List ℕ) → fault_at 0 0 ≡ fault_of (product_tests n product) → (product_fault n product ≡ 0) × IsProduct n product
 unfolding product_fault
-found-product n product e z = let none = sym (ap (λ (f : Fault). f.number) e) ∙ z in (none, (accepted-product n product).0 none)
+product-sound n product e = let none = sym (ap (λ (f : Fault). f.number) e) in (none, (accepted-product n product).0 none)
 
 -- ---- tests one after the other
 
@@ -45,6 +45,9 @@ early ts us e n =
     let some : first_fault ts ≢ 0 = λ z. n (ap (λ (f : Fault). f.number) e ∙ z) in
     e ∙ ap₂ fault_at (sym (fault-before ts us some)) (sym (place-before ts us some))
 
+pub refused-early : (ts us : List Test) (refusal : Refusal) → told_by refusal ≡ fault_of ts → told_by refusal ≡ fault_of (ts ++ us)
+refused-early ts us refusal e = early ts us e (number-nonzero refusal)
+
 pub late : (ts us : List Test) → Numbered ts → first_fault ts ≡ 0 → fault_of (ts ++ us) ≡ fault_of us
 late ts us h e = ap₂ fault_at (fault-append ts us h e) (place-append ts us h e)
 
@@ -53,15 +56,6 @@ late ts us h e = ap₂ fault_at (fault-append ts us h e) (place-append ts us h e
 pub list-numbered : (form : List ℕ) (records : ℕ) (same : Bool) → Numbered (list_tests form records same)
 unfolding holds
 list-numbered form records same = numbered (list_tests form records same) refl
-
-pub list-found : (form : List ℕ) (records : ℕ) (same : Bool) → fault_at (first_fault (list_tests form records same)) 0 ≡ fault_of (list_tests form records same)
-unfolding first_fault first_place
-list-found form records same = go (ltb records (2 ^ form_variables form)) (not same)
-  where
-    go : (t u : Bool) → fault_at (cond t room_fault (cond u records_fault 0)) 0 ≡ fault_at (cond t room_fault (cond u records_fault 0)) (cond t 0 (cond u 0 0))
-    go true u = refl
-    go false true = refl
-    go false false = refl
 
 -- Where nothing is said of the records they are the one test of building.
 build-list : (form : List ℕ) (records : ℕ) → fault_of (list_tests form records true) ≡ fault_of (list_test form records ∷ [])
@@ -77,22 +71,23 @@ module _ (form : List ℕ) (h : form_fault form ≡ 0) where
   past-form us = late (form_tests form) us (form-numbered form) h
 
   module _ (records : ℕ) (same : Bool) (us : List Test) where
-    pub list-wrong : first_fault (list_tests form records same) ≢ 0 → fault_at (first_fault (list_tests form records same)) 0 ≡ fault_of (form_tests form ++ (list_tests form records same ++ us))
-    list-wrong n = early (list_tests form records same) us (list-found form records same) n ∙ sym (past-form (list_tests form records same ++ us))
+    pub list-wrong : (refusal : Refusal) → told_by refusal ≡ fault_of (list_tests form records same) → told_by refusal ≡ fault_of (form_tests form ++ (list_tests form records same ++ us))
+    list-wrong refusal e = refused-early (list_tests form records same) us refusal e ∙ sym (past-form (list_tests form records same ++ us))
 
     pub list_right : first_fault (list_tests form records same) ≡ 0 → fault_of us ≡ fault_of (form_tests form ++ (list_tests form records same ++ us))
     list_right z = sym (past-form (list_tests form records same ++ us) ∙ late (list_tests form records same) us (list-numbered form records same) z)
 
-  module _ (records : ℕ) where
-    pub build-wrong : first_fault (list_tests form records true) ≢ 0 → fault_at (first_fault (list_tests form records true)) 0 ≡ fault_of (build_tests form records)
-    build-wrong n = list-found form records true ∙ build-list form records ∙ sym (past-form (list_test form records ∷ []))
+    pub list-passed : fault_at 0 0 ≡ fault_of (list_tests form records same) → fault_of us ≡ fault_of (form_tests form ++ (list_tests form records same ++ us))
+    list-passed e = list_right (sym (ap (λ (f : Fault). f.number) e))
 
-    pub build-none : first_fault (list_tests form records true) ≡ 0 → first_fault (build_tests form records) ≡ 0
-    build-none z = ap (λ (f : Fault). f.number) (past-form (list_test form records ∷ []) ∙ sym (build-list form records)) ∙ z
+  module _ (records : ℕ) where
+    pub build-found : {found : Fault} → found ≡ fault_of (list_tests form records true) → found ≡ fault_of (build_tests form records)
+    build-found e = e ∙ build-list form records ∙ sym (past-form (list_test form records ∷ []))
 
   module _ (product : List ℕ) (us : List Test) where
-    pub product-wrong : {found : Fault} → found ≡ fault_of (product_tests (form_variables form) product) → found.number ≢ 0 → found ≡ fault_of (form_tests form ++ (product_tests (form_variables form) product ++ us))
-    product-wrong e n = early (product_tests (form_variables form) product) us e n ∙ sym (past-form (product_tests (form_variables form) product ++ us))
+    pub product-wrong : (refusal : Refusal) → told_by refusal ≡ fault_of (product_tests (form_variables form) product)
+        → told_by refusal ≡ fault_of (form_tests form ++ (product_tests (form_variables form) product ++ us))
+    product-wrong refusal e = refused-early (product_tests (form_variables form) product) us refusal e ∙ sym (past-form (product_tests (form_variables form) product ++ us))
 
     pub product-right : product_fault (form_variables form) product ≡ 0 → fault_of (form_tests form ++ us) ≡ fault_of (form_tests form ++ (product_tests (form_variables form) product ++ us))
     unfolding product_fault
@@ -120,10 +115,10 @@ empty-none form h = rw (ne_eqb (length (form_products form)) 0 h)
 -- ---- the answer of a call without a room
 
 module _ (ts : List Test) (f : Form) (long : ℕ) where
-  pub answer-refused : {found : Fault} {answer : Indexed} → found ≡ fault_of ts → found.number ≢ 0 → answer ≡ index_refused found.place found.number → answer ≡ answer_of (index_call ts f long)
-  answer-refused {found} e n r =
-      let number : first_fault ts ≡ found.number = ap (λ (x : Fault). x.number) (sym e) in
-      r ∙ ap (λ (x : Fault). index_refused x.place found.number) e ∙ sym (decide-refused ts (index_accepted f long) (index_refused (first_place ts)) found.number n number)
+  pub answer-refused : (refusal : Refusal) → told_by refusal ≡ fault_of ts → refused_index refusal ≡ answer_of (index_call ts f long)
+  answer-refused refusal e =
+      let number : first_fault ts ≡ number_of refusal = ap (λ (x : Fault). x.number) (sym e) in
+      ap (λ (x : Fault). index_refused x.place (number_of refusal)) e ∙ sym (decide-refused ts (index_accepted f long) (index_refused (first_place ts)) (number_of refusal) (number-nonzero refusal) number)
 
   pub answer-accepted : first_fault ts ≡ 0 → index_accepted f long ≡ answer_of (index_call ts f long)
   answer-accepted z = sym (decide-accepted ts (index_accepted f long) (index_refused (first_place ts)) z)

@@ -18,7 +18,7 @@ use Rattle.form.specs.Encoding.{encode_factors, encode_products}
 use Rattle.form.specs.Refusal.{IsForm}
 use Rattle.form.proofs.Laying.{Laying, ends, begins, holds, LaidAs, form, form-laid}
 use Rattle.form.proofs.Encodings.{parts-end, parts-product, parts-factor, laying-first}
-use Rattle.form_calls.proofs.Valuing.{Rest, rest, rest-there}
+use Rattle.form_calls.proofs.Valuing.{Rest, rest}
 use Rattle.index.specs.Changes.{factors_of_product, factor_begins, WholeProduct}
 use Rattle.index.specs.Answers.{without_last, last_of}
 
@@ -143,9 +143,6 @@ module _ (bytes : List ℕ) (place : ℕ) (b : Begun (drop place bytes)) where
   pub products-over : get_or bytes place 0 ≢ product_kind → (parts_from 0 (drop place bytes)).products ≡ []
   products-over e = front-end b.left.laying b.none (λ q. e (sym (byte_at bytes place) ∙ q))
 
-  pub begun-there : place < length bytes
-  begun-there = rest-there bytes place b.left
-
   -- Where a product is left, one begins.
   pub product-byte : 1 ≤ length (parts_from 0 (drop place bytes)).products → get_or bytes place 0 ≡ product_kind
   product-byte h = go (eqb (get_or bytes place 0) product_kind) refl
@@ -199,3 +196,20 @@ last-there bytes (p ∷ q ∷ ps) place b e h =
     let first : factors_of_product bytes place ≡ p = ap (head_or []) all in
     let same : next_product bytes place + lasts_length (q ∷ ps) ≡ place + lasts_length (p ∷ q ∷ ps) = omega (arith, ap (λ (fs : List Factor). factor_length * length fs) first, lasts-more p q ps) in
     subst (λ (k : ℕ). WholeProduct bytes k × (factors_of_product bytes k ≡ last_of q ps)) same (last-there bytes (q ∷ ps) (next_product bytes place) there.1 (ap (drop 1) all) (omega arith))
+
+-- ---- a product that is left
+
+-- It begins at the place, and past it the next one does; the last one is no further away than before.
+module _ (bytes : List ℕ) (place : ℕ) (b : Begun (drop place bytes)) where
+  pub product-left : 1 ≤ length (parts_from 0 (drop place bytes)).products
+      → WholeProduct bytes place × Begun (drop (next_product bytes place) bytes) × ((parts_from 0 (drop place bytes)).products ≡ factors_of_product bytes place ∷ (parts_from 0 (drop (next_product bytes place) bytes)).products)
+  product-left h = product-there bytes place b (product-byte bytes place b h)
+
+  pub lasts-nearer : 2 ≤ length (parts_from 0 (drop place bytes)).products
+      → next_product bytes place + lasts_length (parts_from 0 (drop (next_product bytes place) bytes)).products ≡ place + lasts_length (parts_from 0 (drop place bytes)).products
+  lasts-nearer h =
+      let p = factors_of_product bytes place in
+      let ps = (parts_from 0 (drop (next_product bytes place) bytes)).products in
+      let there = product-left (omega (arith, h)) in
+      let some : 1 ≤ length ps = omega (arith, h, ap length there.2) in
+      omega (arith, ap lasts_length there.2, lasts-next p ps some)

@@ -4,6 +4,8 @@ use Rattle.std.specs.Prelude.{Bool, not, List, [], ◌∷◌, ◌++◌, ℕ, ◌
 use Rattle.records.specs.declared.Kind.TheVariants.{Variables}
 use Rattle.records.specs.Kinds.{body_length}
 use Rattle.table.specs.Refusal.{Test, test, test_at, first_place, room_fault, empty_form_fault, records_fault, too_many_products_fault}
+use Rattle.table.specs.declared.Refusal.{Refusal}
+use Rattle.table.specs.Answers.{number_of, place_of}
 use Rattle.table.specs.Decision.{Decision, decide, answer_of, after_of, room_test}
 use Rattle.product.specs.Product.{Factor}
 use Rattle.form.specs.Form.{max_products, Form}
@@ -24,6 +26,10 @@ index_accepted f long = record { refusal = 0; place = 0; variables = f.variables
 -- A refusal returns its number and its place with all other numbers 0.
 abbrev pub index_refused : ℕ → ℕ → Indexed
 index_refused place number = record { refusal = number; place = place; variables = 0; length = 0; products = 0 }
+
+-- What a call gives for a refusal.
+abbrev pub refused_index : Refusal → Indexed
+refused_index refusal = index_refused (place_of refusal) (number_of refusal)
 
 -- A call by its tests and the form that it accepts.
 abbrev pub index_call : List Test → Form → ℕ → Decision Indexed

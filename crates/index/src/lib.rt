@@ -3,31 +3,32 @@
 #![tactic(auto)]
 
 ghost use Rattle.std.specs.Prelude.{◌≡◌, cond, ◌++◌, ◌+◌, ◌≤◌, ◌<◌, ◌^◌, ltb, length};
-ghost use Rattle.table.specs.Refusal.{first_fault, fault_of};
+ghost use Rattle.table.specs.Refusal.{fault_of};
+ghost use Rattle.table.specs.Answers.{fault_from, settled};
 ghost use Rattle.table.specs.Decision.{front};
 ghost use Rattle.records.specs.Kinds.{encode_end, word_record_length};
 ghost use Rattle.form.specs.Decoding.{form_products, form_variables};
 ghost use Rattle.form.specs.Refusal.{IsForm};
 ghost use Rattle.index.specs.Records.{HasPoint, bound_of, no_product, point_record_of, still_of};
 ghost use Rattle.index.specs.Changes.{ChangesAt, Few, WholeProduct, changed_of, add_holder, drop_holder, factor_begins, product_seen, reach_of};
-ghost use Rattle.index.specs.Answers.{append_after_by, append_answer_by, append_tests, build_answer_by, index_refused, last_place, list_tests, remove_after_by, remove_answer_by, remove_tests};
+ghost use Rattle.index.specs.Answers.{append_after_by, append_answer_by, append_tests, build_answer_by, last_place, list_tests, refused_index, remove_after_by, remove_answer_by, remove_tests};
 
 use form::{FACTOR_LENGTH, FIRST_PRODUCT, MAX_PRODUCTS, PRODUCT_LENGTH};
-use records::{FACTOR_KIND, PRODUCT_KIND, WORD_RECORD_LENGTH};
-use table::Fault;
+use records::{FACTOR_KIND, WORD_RECORD_LENGTH};
+use table::{Answer, BytesFault, Refusal};
 
 // How many products hold a point, and the first of them, counted from 0, or `NO_PRODUCT`.
 #[repr(C)]
-#[derive(Clone, Copy)]
+#[derive(Clone, Copy, Debug, PartialEq, Eq)]
 pub struct PointRecord {
     pub count: u16,
     pub first: u16,
 }
 
 // What a call gives: the refusal or 0, its byte place, and the numbers of the form that the list then belongs to, which are its n, its length in bytes
-// and how many products it has.
+// and how many products it has. C reads the refusal as its number.
 #[repr(C)]
-#[derive(Clone, Copy)]
+#[derive(Clone, Copy, Debug, PartialEq, Eq)]
 pub struct Indexed {
     pub refusal: u8,
     pub place: usize,
@@ -36,31 +37,30 @@ pub struct Indexed {
     pub products: usize,
 }
 
-// The number that stands for no product, as `no_product` in specs/.
+// The number that stands for no product, as `no_product` in specs/. It is a number and no `Option`, since C reads the record.
 pub const NO_PRODUCT: u16 = 65535;
 
-// The ways to change a list, as `build_way`, `append_way` and `remove_way` in specs/.
+// The ways to change a list, as `build_way`, `append_way` and `remove_way` in specs/. They are numbers since `changed` takes every number: an enum would
+// ask more of its callers.
 pub const BUILD: u8 = 0;
 
 pub const APPEND: u8 = 1;
 
 pub const REMOVE: u8 = 2;
 
-// What a product says of a point, and where the record after its last factor begins.
-#[derive(Clone, Copy)]
+// What a product says of a point, and where the record after its last factor begins. Both are always given: this is no flag beside a value.
+#[derive(Clone, Copy, Debug, PartialEq, Eq)]
 pub struct ProductSeen {
     pub holds: bool,
     pub next: usize,
 }
 
 // A factor begins at the place.
+#[tactic(auto, unfolding(crate::specs::Changes::factor_begins))]
 fn factor_begins(bytes: &[u8], place: usize) -> bool
     ensures { result ≡ factor_begins bytes.now place }
 {
-    if place < bytes.len() {
-        return bytes[place] == FACTOR_KIND;
-    }
-    false
+    bytes.get(place) == Some(&FACTOR_KIND)
 }
 
 // The product whose 50 stands at the place, seen from a point.
@@ -70,6 +70,7 @@ fn product_seen(bytes: &[u8], place: usize, point: u16) -> ProductSeen
 {
     let mut next = place + PRODUCT_LENGTH;
     let mut holds = true;
+    // No range goes over the factors: where they end is seen only at the record after them.
     while factor_begins(bytes, next) {
         holds = form_calls::still_holds(bytes, next, holds, point);
         next += FACTOR_LENGTH;
@@ -93,7 +94,7 @@ fn add_holder(old: PointRecord, holds: bool, number: u16) -> PointRecord
     }
     PointRecord {
         count: old.count + 1,
-        first: old.first,
+        ..old
     }
 }
 
@@ -112,7 +113,7 @@ fn drop_holder(old: PointRecord, holds: bool) -> PointRecord
     }
     PointRecord {
         count: old.count - 1,
-        first: old.first,
+        ..old
     }
 }
 
@@ -125,12 +126,10 @@ fn record_at(bytes: &[u8], point: u16) -> PointRecord
         count: 0,
         first: NO_PRODUCT,
     };
-    let mut number: u16 = 0;
     let mut place = FIRST_PRODUCT;
-    while bytes[place] == PRODUCT_KIND {
+    for number in 0..product_count(bytes) {
         let seen = product_seen(bytes, place, point);
-        found = add_holder(found, seen.holds, number);
-        number += 1;
+        found = add_holder(found, seen.holds, number as u16);
         place = seen.next;
     }
     found
@@ -153,36 +152,27 @@ fn form_size(form: &[u8]) -> usize
 }
 
 // How many of the records that are lent belong to the form.
+#[tactic(auto, unfolding(crate::specs::Records::bound_of))]
 pub fn bound(form: &[u8], records: usize) -> usize
     ensures { result ≡ bound_of form.now records }
 {
-    let fault = form::form_fault(form);
-    if fault.number != 0 {
-        return 0;
+    match form::check_form(form) {
+        Ok(()) => records.min(form_size(form)),
+        Err(_) => 0,
     }
-    let points = form_size(form);
-    if records < points {
-        return records;
-    }
-    points
 }
 
-// The records before a point are right, and so is the point's own. A loop over it needs no branch.
+// The records before a point are right, and so is the point's own.
+#[tactic(auto, unfolding(crate::specs::Records::same_record))]
 pub fn still(right: bool, old: PointRecord, form: &[u8], point: usize) -> bool
     requires { HasPoint form.now point }
     ensures { result ≡ still_of form.now point right old }
 {
-    if !right {
-        return false;
-    }
-    let wanted = record_at(form, point as u16);
-    if old.count != wanted.count {
-        return false;
-    }
-    old.first == wanted.first
+    right && old == record_at(form, point as u16)
 }
 
-// How many of the records that are lent a call changes.
+// How many of the records that are lent a call changes. The answer is C's struct, so its refusal is a number here.
+#[tactic(auto, unfolding(crate::specs::Changes::reach_of))]
 pub fn reach(answer: Indexed, records: usize) -> usize
     requires { Few answer }
     ensures { result ≡ reach_of answer records }
@@ -190,11 +180,7 @@ pub fn reach(answer: Indexed, records: usize) -> usize
     if answer.refusal != 0 {
         return 0;
     }
-    let points = table::point_count(answer.variables) as usize;
-    if records < points {
-        return records;
-    }
-    points
+    records.min(table::point_count(answer.variables) as usize)
 }
 
 // The record of a point after an accepted call.
@@ -230,52 +216,56 @@ fn product_count(form: &[u8]) -> usize
     records::word(form[end + 1], form[end + 2]) as usize
 }
 
-// What is wrong with a list of so many records for an accepted form: it is short, or its first records aren't those of the form.
-fn list_fault(form: &[u8], records: usize, same: bool) -> u8
+impl Answer for Indexed {
+    ghost refused_with = { refused_index };
+
+    fn refused(refusal: Refusal) -> Indexed {
+        Indexed {
+            refusal: refusal.number(),
+            place: refusal.place(),
+            variables: 0,
+            length: 0,
+            products: 0,
+        }
+    }
+}
+
+// Refused where a list of so many records is short for an accepted form, or its first records aren't those of the form. That
+// they are (`same`) is a fact that the caller found, and switches no step.
+#[tactic(auto, unfolding(table::specs::Refusal::first_fault, table::specs::Refusal::first_place))]
+fn check_list(form: &[u8], records: usize, same: bool) -> Result<(), Refusal>
     requires { IsForm form.now }
-    ensures { result ≡ first_fault (list_tests form.now records same) }
+    ensures { fault_from result ≡ fault_of (list_tests form.now records same) }
 {
     if records < form_size(form) {
-        return table::ROOM_FAULT;
+        return Err(Refusal::Room);
     }
     if !same {
-        return table::RECORDS_FAULT;
+        return Err(Refusal::Records);
     }
-    0
+    Ok(())
+}
+
+// The numbers of a form whose index a list of so many records can hold, or why it can't.
+fn try_build(form: &[u8], records: usize) -> Result<Indexed, Refusal>
+    ensures { settled refused_index result ≡ build_answer_by form.now records }
+{
+    form::check_form(form)?;
+    check_list(form, records, true)?;
+    Ok(Indexed {
+        refusal: 0,
+        place: 0,
+        variables: form_variables(form),
+        length: form.len(),
+        products: product_count(form),
+    })
 }
 
 // The answer of building the index of a form in a list of so many records.
 pub fn build_answer(form: &[u8], records: usize) -> Indexed
     ensures { result ≡ build_answer_by form.now records }
 {
-    let fault = form::form_fault(form);
-    if fault.number != 0 {
-        return refused(fault);
-    }
-    let fault = list_fault(form, records, true);
-    if fault != 0 {
-        return refused(table::fault_at(fault, 0));
-    }
-    Indexed {
-        refusal: 0,
-        place: 0,
-        variables: form_variables(form),
-        length: form.len(),
-        products: product_count(form),
-    }
-}
-
-// The answer of a refusal.
-fn refused(fault: Fault) -> Indexed
-    ensures { result ≡ index_refused fault.place fault.number }
-{
-    Indexed {
-        refusal: fault.number,
-        place: fault.place,
-        variables: 0,
-        length: 0,
-        products: 0,
-    }
+    table::settle(try_build(form, records))
 }
 
 // A form at the front of the room: the bytes that are kept of another, those that are added, and the end record with the number of products.
@@ -283,41 +273,59 @@ fn put_form(kept: &[u8], added: &[u8], products: u16, room: &mut [u8])
     requires { length kept.now + length added.now + word_record_length ≤ length room.old }
     ensures { room.new ≡ front ((kept.now ++ added.now) ++ encode_end products) room.old }
 {
-    let next = text::write_word(&mut *room, 0, kept);
-    let end = text::write_word(&mut *room, next, added);
-    records::put_end(&mut *room, end, products);
+    let next = kept.len();
+    let end = next + added.len();
+    room[..next].copy_from_slice(kept);
+    room[next..end].copy_from_slice(added);
+    records::put_end(room, end, products);
 }
 
-// What is wrong with appending a product to a form with a list of so many records, before its room is tested.
-fn append_fault(form: &[u8], product: &[u8], records: usize, same: bool) -> Fault
-    ensures { result ≡ fault_of (append_tests form.now product.now records same) }
+// Refused where a product can't be appended to a form with a list of so many records, before its room is tested.
+fn check_append(form: &[u8], product: &[u8], records: usize, same: bool) -> Result<(), Refusal>
+    ensures { fault_from result ≡ fault_of (append_tests form.now product.now records same) }
 {
-    let fault = form::form_fault(form);
-    if fault.number != 0 {
-        return fault;
+    form::check_form(form)?;
+    form::check_product(product, form_variables(form))?;
+    check_list(form, records, same)?;
+    if product_count(form) >= MAX_PRODUCTS {
+        return Err(Refusal::Bytes(BytesFault::TooMany(0)));
     }
-    let fault_of_product = form::product_fault(product, form_variables(form));
-    if fault_of_product.number != 0 {
-        return fault_of_product;
-    }
-    let number = list_fault(form, records, same);
-    if number != 0 {
-        return table::fault_at(number, 0);
-    }
-    if product_count(form) < MAX_PRODUCTS {
-        return table::fault_at(0, 0);
-    }
-    table::fault_at(table::TOO_MANY_PRODUCTS_FAULT, 0)
+    Ok(())
 }
 
 // A room of so many bytes is shorter than two lengths together. Their sum need not be a number of the machine.
 fn too_short(room: usize, first: usize, second: usize) -> bool
     ensures { result ≡ ltb room (first + second) }
 {
-    if room < second {
-        return true;
+    room < second || room - second < first
+}
+
+// A product appended to a form at the front of the room, or why it isn't. A refusal writes nothing.
+fn try_append(
+    form: &[u8],
+    product: &[u8],
+    records: usize,
+    same: bool,
+    room: &mut [u8],
+) -> Result<Indexed, Refusal>
+    ensures value { settled refused_index result
+        ≡ append_answer_by form.now product.now records same room.old }
+    ensures room_after { room.new ≡ append_after_by form.now product.now records same room.old }
+{
+    check_append(form, product, records, same)?;
+    if too_short(room.len(), form.len(), product.len()) {
+        return Err(Refusal::Room);
     }
-    room - second < first
+    let end = form.len() - WORD_RECORD_LENGTH;
+    let products = product_count(form) + 1;
+    put_form(&form[..end], product, products as u16, room);
+    Ok(Indexed {
+        refusal: 0,
+        place: 0,
+        variables: form_variables(form),
+        length: form.len() + product.len(),
+        products,
+    })
 }
 
 // A product appended to a form: the new form at the front of the room. Whether the list of so many records begins with the index of the form is
@@ -332,23 +340,7 @@ pub fn append_form(
     ensures value { result ≡ append_answer_by form.now product.now records same room.old }
     ensures room_after { room.new ≡ append_after_by form.now product.now records same room.old }
 {
-    let fault = append_fault(form, product, records, same);
-    if fault.number != 0 {
-        return refused(fault);
-    }
-    if too_short(room.len(), form.len(), product.len()) {
-        return refused(table::fault_at(table::ROOM_FAULT, 0));
-    }
-    let end = form.len() - WORD_RECORD_LENGTH;
-    let products = product_count(form) + 1;
-    put_form(&form[..end], product, products as u16, &mut *room);
-    Indexed {
-        refusal: 0,
-        place: 0,
-        variables: form_variables(form),
-        length: form.len() + product.len(),
-        products: products,
-    }
+    table::settle(try_append(form, product, records, same, room))
 }
 
 // Where the last of so many products of an accepted form begins.
@@ -359,31 +351,44 @@ fn last_product(form: &[u8], products: usize) -> usize
     ensures { result ≡ last_place form.now }
 {
     let mut place = FIRST_PRODUCT;
-    let mut left = products - 1;
-    while left > 0 {
-        let seen = product_seen(form, place, 0);
-        place = seen.next;
-        left -= 1;
+    for passed in 1..products {
+        place = product_seen(form, place, 0).next;
     }
     place
 }
 
-// What is wrong with taking the last product from a form with a list of so many records, before its room is tested.
-fn remove_fault(form: &[u8], records: usize, same: bool) -> Fault
-    ensures { result ≡ fault_of (remove_tests form.now records same) }
+// Refused where the last product can't be taken from a form with a list of so many records, before its room is tested.
+fn check_remove(form: &[u8], records: usize, same: bool) -> Result<(), Refusal>
+    ensures { fault_from result ≡ fault_of (remove_tests form.now records same) }
 {
-    let fault = form::form_fault(form);
-    if fault.number != 0 {
-        return fault;
-    }
-    let number = list_fault(form, records, same);
-    if number != 0 {
-        return table::fault_at(number, 0);
-    }
+    form::check_form(form)?;
+    check_list(form, records, same)?;
     if product_count(form) == 0 {
-        return table::fault_at(table::EMPTY_FORM_FAULT, 0);
+        return Err(Refusal::EmptyForm);
     }
-    table::fault_at(0, 0)
+    Ok(())
+}
+
+// The last product taken from a form at the front of the room, or why it isn't. A refusal writes nothing.
+fn try_remove(form: &[u8], records: usize, same: bool, room: &mut [u8]) -> Result<Indexed, Refusal>
+    ensures value { settled refused_index result
+        ≡ remove_answer_by form.now records same room.old }
+    ensures room_after { room.new ≡ remove_after_by form.now records same room.old }
+{
+    check_remove(form, records, same)?;
+    let products = product_count(form);
+    let last = last_product(form, products);
+    if room.len() < last + WORD_RECORD_LENGTH {
+        return Err(Refusal::Room);
+    }
+    put_form(&form[..last], &[], (products - 1) as u16, room);
+    Ok(Indexed {
+        refusal: 0,
+        place: 0,
+        variables: form_variables(form),
+        length: last + WORD_RECORD_LENGTH,
+        products: products - 1,
+    })
 }
 
 // The last product taken from a form: the new form at the front of the room. Whether the list of so many records begins with the index of the form
@@ -392,21 +397,5 @@ pub fn remove_form(form: &[u8], records: usize, same: bool, room: &mut [u8]) -> 
     ensures value { result ≡ remove_answer_by form.now records same room.old }
     ensures room_after { room.new ≡ remove_after_by form.now records same room.old }
 {
-    let fault = remove_fault(form, records, same);
-    if fault.number != 0 {
-        return refused(fault);
-    }
-    let products = product_count(form);
-    let last = last_product(form, products);
-    if room.len() < last + WORD_RECORD_LENGTH {
-        return refused(table::fault_at(table::ROOM_FAULT, 0));
-    }
-    put_form(&form[..last], &form[..0], (products - 1) as u16, &mut *room);
-    Indexed {
-        refusal: 0,
-        place: 0,
-        variables: form_variables(form),
-        length: last + WORD_RECORD_LENGTH,
-        products: products - 1,
-    }
+    table::settle(try_remove(form, records, same, room))
 }

@@ -14,10 +14,8 @@ pub fn matches(list: &[PointRecord], form: &[u8]) -> bool
 {
     let many = index::bound(form, list.len());
     let mut same = true;
-    let mut i = 0;
-    while i < many {
-        same = index::still(same, list[i], form, i);
-        i = i + 1;
+    for (point, record) in list[..many].iter().enumerate() {
+        same = index::still(same, *record, form, point);
     }
     same
 }
@@ -28,9 +26,7 @@ pub fn update(list: &mut [PointRecord], bytes: &[u8], answer: Indexed, way: u8)
     ensures { list.new ≡ updated way bytes.now answer list.old }
 {
     let many = index::reach(answer, list.len());
-    let mut i = 0;
-    while i < many {
-        list[i] = index::changed(list[i], i, bytes, answer, way);
-        i = i + 1;
+    for (point, record) in list[..many].iter_mut().enumerate() {
+        *record = index::changed(*record, point, bytes, answer, way);
     }
 }

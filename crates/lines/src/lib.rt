@@ -1,164 +1,167 @@
-// The lines of the printed report, written into lent bytes: each function takes the bytes and a place, and gives the place after what it wrote
-// (document 01, "The printed report"). Read next: specs/Lib.antt.
+// The lines of the printed report: each function writes one, or several of a kind, behind what a writer has written. Read next: specs/Lib.antt.
 #![tactic(auto)]
 
-ghost use Rattle.std.specs.Prelude.{◌≡◌, ◌+◌, ◌≤◌, length};
+ghost use Rattle.std.specs.Prelude.{◌≡◌, ◌≤◌, length};
 ghost use mathlib.Core.List.{zip_with, flat_map};
 ghost use Rattle.gf2.specs.Limits.{max_variables};
 ghost use Rattle.product.specs.Product.{factor};
-ghost use Rattle.text.specs.Writing.{HasRoom, Wrote};
+ghost use Rattle.text.specs.Writing.{Fits, with_text};
 ghost use Rattle.lines.specs.Lines.{number_line, fault_line, counts_line, degree_line, numbers_text, numbers_line, variables_text, equation_line, equation_lines, factor_text, product_text, product_line};
 
+use text::Writer;
+
 // A word and a number.
-pub fn number_line(room: &mut [u8], at: usize, word: &[u8], n: usize) -> usize
-    requires { HasRoom room.old at (number_line word.now n) }
-    ensures { Wrote room.old at (number_line word.now n) room.new result }
+#[tactic(auto, unfolding(crate::specs::Lines::number_line), using(text::proofs::Writing::parts))]
+pub fn number_line(out: &mut Writer<'_>, word: &[u8], n: usize)
+    requires { Fits out.old (number_line word.now n) }
+    ensures { out.new ≡ with_text out.old (number_line word.now n) }
 {
-    let end = text::write_labelled(&mut *room, at, word, n);
-    text::write_word(&mut *room, end, b"\n")
+    out.labelled(word, n);
+    out.word(b"\n");
 }
 
-// A refusal, with its byte place if its number has one.
-pub fn fault_line(room: &mut [u8], at: usize, number: u8, place: usize) -> usize
-    requires { HasRoom room.old at (fault_line number place) }
-    ensures { Wrote room.old at (fault_line number place) room.new result }
+// A refusal, with its byte place if its number has one. It takes the number and no `Refusal`, since every number has a line.
+#[tactic(auto, unfolding(crate::specs::Lines::fault_line), using(text::proofs::Writing::parts))]
+pub fn fault_line(out: &mut Writer<'_>, number: u8, place: usize)
+    requires { Fits out.old (fault_line number place) }
+    ensures { out.new ≡ with_text out.old (fault_line number place) }
 {
     if !table::has_place(number) {
-        return number_line(&mut *room, at, b"refused ", number as usize);
+        number_line(out, b"refused ", number as usize);
+        return;
     }
-    let rest = text::write_labelled(&mut *room, at, b"refused ", number as usize);
-    number_line(&mut *room, rest, b" at ", place)
+    out.labelled(b"refused ", number as usize);
+    number_line(out, b" at ", place);
 }
 
 // The numbers of on points and of free points.
-pub fn counts_line(room: &mut [u8], at: usize, on: usize, free: usize) -> usize
-    requires { HasRoom room.old at (counts_line on free) }
-    ensures { Wrote room.old at (counts_line on free) room.new result }
+#[tactic(auto, unfolding(crate::specs::Lines::counts_line), using(text::proofs::Writing::parts))]
+pub fn counts_line(out: &mut Writer<'_>, on: usize, free: usize)
+    requires { Fits out.old (counts_line on free) }
+    ensures { out.new ≡ with_text out.old (counts_line on free) }
 {
-    let rest = text::write_labelled(&mut *room, at, b"on ", on);
-    number_line(&mut *room, rest, b" free ", free)
+    out.labelled(b"on ", on);
+    number_line(out, b" free ", free);
 }
 
 // The degree, marked as that of the simple way if asked.
-pub fn degree_line(room: &mut [u8], at: usize, simple: bool, k: usize) -> usize
-    requires { HasRoom room.old at (degree_line simple k) }
-    ensures { Wrote room.old at (degree_line simple k) room.new result }
+#[tactic(auto, unfolding(crate::specs::Lines::degree_line), using(text::proofs::Writing::parts))]
+pub fn degree_line(out: &mut Writer<'_>, simple: bool, k: usize)
+    requires { Fits out.old (degree_line simple k) }
+    ensures { out.new ≡ with_text out.old (degree_line simple k) }
 {
     if !simple {
-        return number_line(&mut *room, at, b"degree ", k);
+        number_line(out, b"degree ", k);
+        return;
     }
-    let end = text::write_labelled(&mut *room, at, b"degree ", k);
-    text::write_word(&mut *room, end, b" simple\n")
+    out.labelled(b"degree ", k);
+    out.word(b" simple\n");
 }
 
 // Numbers, or `-` for none.
-fn numbers_text(room: &mut [u8], at: usize, numbers: &[u16]) -> usize
-    requires { HasRoom room.old at (numbers_text numbers.now) }
-    ensures { Wrote room.old at (numbers_text numbers.now) room.new result }
+fn numbers_text(out: &mut Writer<'_>, numbers: &[u16])
+    requires { Fits out.old (numbers_text numbers.now) }
+    ensures { out.new ≡ with_text out.old (numbers_text numbers.now) }
 {
-    if numbers.len() == 0 {
-        return text::write_word(&mut *room, at, b" -");
+    if numbers.is_empty() {
+        out.word(b" -");
+        return;
     }
-    text::write_numbers(&mut *room, at, numbers)
+    out.numbers(numbers);
 }
 
 // A word and a list of numbers.
-pub fn numbers_line(room: &mut [u8], at: usize, word: &[u8], numbers: &[u16]) -> usize
-    requires { HasRoom room.old at (numbers_line word.now numbers.now) }
-    ensures { Wrote room.old at (numbers_line word.now numbers.now) room.new result }
+#[tactic(auto, unfolding(crate::specs::Lines::numbers_line), using(text::proofs::Writing::parts))]
+pub fn numbers_line(out: &mut Writer<'_>, word: &[u8], numbers: &[u16])
+    requires { Fits out.old (numbers_line word.now numbers.now) }
+    ensures { out.new ≡ with_text out.old (numbers_line word.now numbers.now) }
 {
-    let next = text::write_word(&mut *room, at, word);
-    let end = numbers_text(&mut *room, next, numbers);
-    text::write_word(&mut *room, end, b"\n")
+    out.word(word);
+    numbers_text(out, numbers);
+    out.word(b"\n");
 }
 
 // The names of the variables of a mask, in index order.
-fn variables_text(room: &mut [u8], at: usize, between: &[u8], n: usize, mask: u16) -> usize
+fn variables_text(out: &mut Writer<'_>, between: &[u8], n: usize, mask: u16)
     requires n_le_max_variables { n ≤ max_variables }
-    requires has_room { HasRoom room.old at (variables_text between.now n mask) }
-    ensures { Wrote room.old at (variables_text between.now n mask) room.new result }
+    requires fits { Fits out.old (variables_text between.now n mask) }
+    ensures { out.new ≡ with_text out.old (variables_text between.now n mask) }
 {
     let variables = basis::variables_of(mask, n);
-    let len = variables.len;
-    let values = variables.values;
-    text::write_names(&mut *room, at, between, &values[0..len])
+    out.names(between, variables.as_slice());
 }
 
 // One reduction equation, by its index and its mask.
-fn equation_line(room: &mut [u8], at: usize, n: usize, index: usize, mask: u16) -> usize
+#[tactic(auto, unfolding(crate::specs::Lines::equation_line), using(text::proofs::Writing::parts))]
+fn equation_line(out: &mut Writer<'_>, n: usize, index: usize, mask: u16)
     requires n_le_max_variables { n ≤ max_variables }
-    requires has_room { HasRoom room.old at (equation_line n index mask) }
-    ensures { Wrote room.old at (equation_line n index mask) room.new result }
+    requires fits { Fits out.old (equation_line n index mask) }
+    ensures { out.new ≡ with_text out.old (equation_line n index mask) }
 {
-    let left = text::write_labelled(&mut *room, at, b"y", index);
-    let right = text::write_word(&mut *room, left, b" = ");
-    let end = variables_text(&mut *room, right, b" + ", n, mask);
-    text::write_word(&mut *room, end, b"\n")
+    out.labelled(b"y", index);
+    out.word(b" = ");
+    variables_text(out, b" + ", n, mask);
+    out.word(b"\n");
 }
 
 // The reduction equations y1, y2, ..
-pub fn equation_lines(room: &mut [u8], at: usize, n: usize, masks: &[u16]) -> usize
+pub fn equation_lines(out: &mut Writer<'_>, n: usize, masks: &[u16])
     requires n_le_max_variables { n ≤ max_variables }
-    requires has_room { HasRoom room.old at (equation_lines n 1 masks.now) }
-    ensures { Wrote room.old at (equation_lines n 1 masks.now) room.new result }
+    requires fits { Fits out.old (equation_lines n 1 masks.now) }
+    ensures { out.new ≡ with_text out.old (equation_lines n 1 masks.now) }
 {
-    let mut next = at;
-    let mut i = 0;
-    while i < masks.len() {
-        next = equation_line(&mut *room, next, n, 1 + i, masks[i]);
-        i += 1;
+    for (i, &mask) in masks.iter().enumerate() {
+        equation_line(out, n, 1 + i, mask);
     }
-    next
 }
 
 // One factor, after its blank.
-fn factor_text(room: &mut [u8], at: usize, n: usize, constant: u16, mask: u16) -> usize
+#[tactic(auto, unfolding(crate::specs::Lines::factor_text), using(text::proofs::Writing::parts))]
+fn factor_text(out: &mut Writer<'_>, n: usize, constant: u16, mask: u16)
     requires n_le_max_variables { n ≤ max_variables }
-    requires has_room { HasRoom room.old at (factor_text n (factor constant mask)) }
-    ensures { Wrote room.old at (factor_text n (factor constant mask)) room.new result }
+    requires fits { Fits out.old (factor_text n (factor constant mask)) }
+    ensures { out.new ≡ with_text out.old (factor_text n (factor constant mask)) }
 {
-    let next = text::write_word(&mut *room, at, b" ");
-    let left = variables_text(&mut *room, next, b"+", n, mask);
-    text::write_labelled(&mut *room, left, b"=", constant as usize)
+    out.word(b" ");
+    variables_text(out, b"+", n, mask);
+    out.labelled(b"=", constant as usize);
 }
 
 // The factors in their order, one for each constant and mask.
-fn factors_text(room: &mut [u8], at: usize, n: usize, constants: &[u16], masks: &[u16]) -> usize
+fn factors_text(out: &mut Writer<'_>, n: usize, constants: &[u16], masks: &[u16])
     requires n_le_max_variables { n ≤ max_variables }
     requires constants_len { length constants.now ≡ length masks.now }
-    requires has_room { HasRoom room.old at (flat_map (factor_text n) (zip_with factor constants.now masks.now)) }
-    ensures { Wrote room.old at (flat_map (factor_text n) (zip_with factor constants.now masks.now)) room.new result }
+    requires fits { Fits out.old (flat_map (factor_text n) (zip_with factor constants.now masks.now)) }
+    ensures { out.new ≡ with_text out.old (flat_map (factor_text n) (zip_with factor constants.now masks.now)) }
 {
-    let mut next = at;
-    let mut i = 0;
-    while i < masks.len() {
-        next = factor_text(&mut *room, next, n, constants[i], masks[i]);
-        i += 1;
+    for (&constant, &mask) in constants.iter().zip(masks) {
+        factor_text(out, n, constant, mask);
     }
-    next
 }
 
 // The factors, or `1` for none.
-fn product_text(room: &mut [u8], at: usize, n: usize, constants: &[u16], masks: &[u16]) -> usize
+fn product_text(out: &mut Writer<'_>, n: usize, constants: &[u16], masks: &[u16])
     requires n_le_max_variables { n ≤ max_variables }
     requires constants_len { length constants.now ≡ length masks.now }
-    requires has_room { HasRoom room.old at (product_text n (zip_with factor constants.now masks.now)) }
-    ensures { Wrote room.old at (product_text n (zip_with factor constants.now masks.now)) room.new result }
+    requires fits { Fits out.old (product_text n (zip_with factor constants.now masks.now)) }
+    ensures { out.new ≡ with_text out.old (product_text n (zip_with factor constants.now masks.now)) }
 {
-    if masks.len() == 0 {
-        return text::write_word(&mut *room, at, b" 1");
+    if masks.is_empty() {
+        out.word(b" 1");
+        return;
     }
-    factors_text(&mut *room, at, n, constants, masks)
+    factors_text(out, n, constants, masks);
 }
 
 // One product, by the constants and the masks of its factors.
-pub fn product_line(room: &mut [u8], at: usize, n: usize, constants: &[u16], masks: &[u16]) -> usize
+#[tactic(auto, unfolding(crate::specs::Lines::product_line), using(text::proofs::Writing::parts))]
+pub fn product_line(out: &mut Writer<'_>, n: usize, constants: &[u16], masks: &[u16])
     requires n_le_max_variables { n ≤ max_variables }
     requires constants_len { length constants.now ≡ length masks.now }
-    requires has_room { HasRoom room.old at (product_line n (zip_with factor constants.now masks.now)) }
-    ensures { Wrote room.old at (product_line n (zip_with factor constants.now masks.now)) room.new result }
+    requires fits { Fits out.old (product_line n (zip_with factor constants.now masks.now)) }
+    ensures { out.new ≡ with_text out.old (product_line n (zip_with factor constants.now masks.now)) }
 {
-    let next = text::write_word(&mut *room, at, b"product");
-    let end = product_text(&mut *room, next, n, constants, masks);
-    text::write_word(&mut *room, end, b"\n")
+    out.word(b"product");
+    product_text(out, n, constants, masks);
+    out.word(b"\n");
 }

@@ -15,7 +15,7 @@ use Rattle.cubes.specs.Records.{record_length}
 use Rattle.cubes.specs.Listing.{Passage, nothing, passage}
 use Rattle.cubes.specs.Listing as rule
 use Rattle.walk.specs.declared.Tally.{Tally}
-use Rattle.walk.specs.Walk.{starting, passing, writing, stopping, State, state, walk}
+use Rattle.walk.specs.Walk.{starting, passing, writing, State, going_on, stopping, walk}
 use Rattle.walk.proofs.Steps.{pass_spent, pass-off, pass-full, pass-write, walk-on, walk-stop}
 
 -- The room with the records of some candidates after the first w records.
@@ -60,9 +60,9 @@ ended recorded {a} {w} {m} s e f g = record { left = omega (arith, e); written =
 
 module _ (prime : Candidate → Bool) (recorded : Candidate → List ℕ) where
   walk-runs : (cs : List Candidate) → ((c : Candidate) → Mem c cs → length (recorded c) ≡ record_length) → (t : Tally) (m : List ℕ) → record_length * t.written ≤ length m
-      → EndsAs recorded t.left t.written m (passage record_length prime cs t.left (length m - record_length * t.written)) (walk prime recorded cs (state t m))
+      → EndsAs recorded t.left t.written m (passage record_length prime cs t.left (length m - record_length * t.written)) (walk prime recorded cs (going_on t m))
   unfolding walk passage
-  walk-runs [] h t m k = ended recorded (state t m) refl refl refl
+  walk-runs [] h t m k = ended recorded (going_on t m) refl refl refl
   walk-runs (c ∷ cs) h t m k = go t.left refl (prime c) refl (ltb (length m) (record_length * t.written + record_length)) refl
       (walk-runs cs (λ d i. h d (inr i)) (passing t) m k)
       (walk-runs cs (λ d i. h d (inr i)) (writing t) (sets m (record_length * t.written) (recorded c)))
@@ -71,43 +71,43 @@ module _ (prime : Candidate → Bool) (recorded : Candidate → List ℕ) where
       M = sets m (record_length * t.written) (recorded c)
 
       go : (a : ℕ) → t.left ≡ a → (p : Bool) → prime c ≡ p → (u : Bool) → ltb (length m) (record_length * t.written + record_length) ≡ u
-          → EndsAs recorded (t.left - 1) t.written m (passage record_length prime cs (t.left - 1) (length m - record_length * t.written)) (walk prime recorded cs (state (passing t) m))
-          → (record_length * (t.written + 1) ≤ length M → EndsAs recorded (t.left - 1) (t.written + 1) M (passage record_length prime cs (t.left - 1) (length M - record_length * (t.written + 1))) (walk prime recorded cs (state (writing t) M)))
-          → EndsAs recorded a t.written m (passage record_length prime (c ∷ cs) a (length m - record_length * t.written)) (walk prime recorded (c ∷ cs) (state t m))
+          → EndsAs recorded (t.left - 1) t.written m (passage record_length prime cs (t.left - 1) (length m - record_length * t.written)) (walk prime recorded cs (going_on (passing t) m))
+          → (record_length * (t.written + 1) ≤ length M → EndsAs recorded (t.left - 1) (t.written + 1) M (passage record_length prime cs (t.left - 1) (length M - record_length * (t.written + 1))) (walk prime recorded cs (going_on (writing t) M)))
+          → EndsAs recorded a t.written m (passage record_length prime (c ∷ cs) a (length m - record_length * t.written)) (walk prime recorded (c ∷ cs) (going_on t m))
       go zero e p q u v i j =
-          subst (EndsAs recorded 0 t.written m nothing) (sym (walk-stop prime recorded c cs (state t m) (state (stopping t) m) (pass_spent prime recorded c t m e) refl))
-          (ended recorded (state (stopping t) m) e refl refl)
+          subst (EndsAs recorded 0 t.written m nothing) (sym (walk-stop prime recorded c cs (going_on t m) (stopping t m) (pass_spent prime recorded c t m e) refl))
+          (ended recorded (stopping t m) e refl refl)
       go (suc a) e true q true v i j =
           let f = ltb-true (length m) (record_length * t.written + record_length) v in
           rw (q, lt-ltb (length m - record_length * t.written) record_length (omega arith))
-          (subst (EndsAs recorded (suc a) t.written m nothing) (sym (walk-stop prime recorded c cs (state t m) (state (stopping t) m) (pass-full prime recorded c t m (λ o. omega arith) q f) refl))
-          (ended recorded (state (stopping t) m) e refl refl))
+          (subst (EndsAs recorded (suc a) t.written m nothing) (sym (walk-stop prime recorded c cs (going_on t m) (stopping t m) (pass-full prime recorded c t m (λ o. omega arith) q f) refl))
+          (ended recorded (stopping t m) e refl refl))
       go (suc a) e true q false v i j =
           let f = ltb-false (length m) (record_length * t.written + record_length) v in
           let n = length-sets m (record_length * t.written) (recorded c) in
           let r = passage record_length prime cs a (length m - record_length * t.written - record_length) in
           let x : t.left - 1 ≡ a = omega arith in
           let y : length M - record_length * (t.written + 1) ≡ length m - record_length * t.written - record_length = omega arith in
-          let b : EndsAs recorded a (t.written + 1) M r (walk prime recorded cs (state (writing t) M)) =
-          subst (λ (z : ℕ). EndsAs recorded z (t.written + 1) M (passage record_length prime cs z (length m - record_length * t.written - record_length)) (walk prime recorded cs (state (writing t) M))) x
-          (subst (λ (z : ℕ). EndsAs recorded (t.left - 1) (t.written + 1) M (passage record_length prime cs (t.left - 1) z) (walk prime recorded cs (state (writing t) M))) y (j (omega arith))) in
+          let b : EndsAs recorded a (t.written + 1) M r (walk prime recorded cs (going_on (writing t) M)) =
+          subst (λ (z : ℕ). EndsAs recorded z (t.written + 1) M (passage record_length prime cs z (length m - record_length * t.written - record_length)) (walk prime recorded cs (going_on (writing t) M))) x
+          (subst (λ (z : ℕ). EndsAs recorded (t.left - 1) (t.written + 1) M (passage record_length prime cs (t.left - 1) z) (walk prime recorded cs (going_on (writing t) M))) y (j (omega arith))) in
           rw (q, le-ltb (length m - record_length * t.written) record_length (omega arith))
           (subst (EndsAs recorded (suc a) t.written m (rule.writing c r))
-          (sym (walk-on prime recorded c cs (state t m) (state (writing t) M) (pass-write prime recorded c t m (λ o. omega arith) q f) refl))
+          (sym (walk-on prime recorded c cs (going_on t m) (going_on (writing t) M) (pass-write prime recorded c t m (λ o. omega arith) q f) refl))
           (record { left = omega (arith, b.left); written = omega (arith, b.written); room = b.room ∙ more_room recorded t.written m c r.primes (h c (inl refl)) f }))
       go (suc a) e false q u v i j =
           let r = passage record_length prime cs a (length m - record_length * t.written) in
           let x : t.left - 1 ≡ a = omega arith in
-          let b : EndsAs recorded a t.written m r (walk prime recorded cs (state (passing t) m)) =
-          subst (λ (z : ℕ). EndsAs recorded z t.written m (passage record_length prime cs z (length m - record_length * t.written)) (walk prime recorded cs (state (passing t) m))) x i in
+          let b : EndsAs recorded a t.written m r (walk prime recorded cs (going_on (passing t) m)) =
+          subst (λ (z : ℕ). EndsAs recorded z t.written m (passage record_length prime cs z (length m - record_length * t.written)) (walk prime recorded cs (going_on (passing t) m))) x i in
           rw q
           (subst (EndsAs recorded (suc a) t.written m (rule.passing r))
-          (sym (walk-on prime recorded c cs (state t m) (state (passing t) m) (pass-off prime recorded c t m (λ o. omega arith) q) refl))
+          (sym (walk-on prime recorded c cs (going_on t m) (going_on (passing t) m) (pass-off prime recorded c t m (λ o. omega arith) q) refl))
           (record { left = omega (arith, b.left); written = b.written; room = b.room }))
 
   -- From the start.
   pub walk_is : (cs : List Candidate) → ((c : Candidate) → Mem c cs → length (recorded c) ≡ record_length) → (a : ℕ) (m : List ℕ)
-      → EndsAs recorded a 0 m (passage record_length prime cs a (length m)) (walk prime recorded cs (state (starting a) m))
+      → EndsAs recorded a 0 m (passage record_length prime cs a (length m)) (walk prime recorded cs (going_on (starting a) m))
   walk_is cs h a m =
       let q : length m - record_length * 0 ≡ length m = omega arith in
-      subst (λ (z : ℕ). EndsAs recorded a 0 m (passage record_length prime cs a z) (walk prime recorded cs (state (starting a) m))) q (walk-runs cs h (starting a) m (omega arith))
+      subst (λ (z : ℕ). EndsAs recorded a 0 m (passage record_length prime cs a z) (walk prime recorded cs (going_on (starting a) m))) q (walk-runs cs h (starting a) m (omega arith))

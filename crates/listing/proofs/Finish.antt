@@ -23,7 +23,7 @@ use Rattle.listing.specs.declared.FirstPoint.{FirstPoint}
 use Rattle.masks.specs.Points.{MaskOf}
 use Rattle.listing.specs.Starts.{StartsAt, PointAt}
 use Rattle.walk.specs.Places.{from_point}
-use Rattle.walk.specs.Walk.{starting, State, state, walk, walk_masked}
+use Rattle.walk.specs.Walk.{starting, State, going_on, walk, walk_masked}
 use Rattle.listing.specs.Answers.{table_of, call_of}
 use Rattle.listing.proofs.Ends.{EndsAs, walk_is}
 use Rattle.listing.proofs.Refusals.{sound-call, sound-few}
@@ -55,7 +55,7 @@ pub record Finished (n : ℕ) (on free : List ℕ) (place allowance : ℕ) (lent
 module _ (n : ℕ) (on free : List ℕ) (place allowance : ℕ) (room : List ℕ) (e : listing_fault (call_of n on free place allowance room) ≡ 0)
     (start : Start) (s : StartsAt n place start) (first : FirstPoint) (f : PointAt n start.degree start.skip first)
     (on_mask free_mask : ℕ) (a : MaskOf on on_mask) (b : MaskOf free free_mask)
-    (u : State) (w : u ≡ walk_masked n on_mask free_mask (drop first.skip (from_point n start.degree first.point)) (state (starting allowance) room)) where
+    (u : State) (w : u ≡ walk_masked n on_mask free_mask (drop first.skip (from_point n start.degree first.point)) (going_on (starting allowance) room)) where
   this : Call
   this = call_of n on free place allowance room
 
@@ -63,10 +63,10 @@ module _ (n : ℕ) (on free : List ℕ) (place allowance : ℕ) (room : List ℕ
   small d m = omega (arith, sound-few n on free place allowance room e, degree-most n d ((candidate-is n d).0 m))
 
   -- The walk goes over the candidates from the place on.
-  went_on : u ≡ walk (prime_of (table_of n on free)) (record_in (table_of n on free)) (drop place (candidates n)) (state (starting allowance) room)
+  went_on : u ≡ walk (prime_of (table_of n on free)) (record_in (table_of n on free)) (drop place (candidates n)) (going_on (starting allowance) room)
   went_on =
-      w ∙ ap (λ (g : List Candidate → State → State). g (drop first.skip (from_point n start.degree first.point)) (state (starting allowance) room)) (masks-walk n on free on_mask free_mask a b)
-      ∙ ap (λ l. walk (prime_of (table_of n on free)) (record_in (table_of n on free)) l (state (starting allowance) room)) (sym (s.same ∙ f.same))
+      w ∙ ap (λ (g : List Candidate → State → State). g (drop first.skip (from_point n start.degree first.point)) (going_on (starting allowance) room)) (masks-walk n on free on_mask free_mask a b)
+      ∙ ap (λ l. walk (prime_of (table_of n on free)) (record_in (table_of n on free)) l (going_on (starting allowance) room)) (sym (s.same ∙ f.same))
 
   -- It ends as the listing rule says.
   ends : EndsAs (record_in (table_of n on free)) allowance 0 room (listing this) u

@@ -2,6 +2,8 @@
 -- Read next: crate `cover`.
 use Rattle.std.specs.Prelude.{List, ℕ}
 use Rattle.cubes.specs.Listing.{Table, Call, Answer}
+use Rattle.table.specs.declared.Refusal.{Refusal}
+use Rattle.table.specs.Answers.{number_of}
 use Rattle.listing.specs.declared.Listed.{Listed}
 
 -- The table with these arguments, and the call.
@@ -19,3 +21,7 @@ call_of n on free place allowance room = record {
 -- The numbers that are returned.
 abbrev pub numbers_of : Listed → Answer
 numbers_of r = record { refusal = r.refusal; next = r.next; passed = r.passed; records = r.records }
+
+-- What a call returns for a refusal: its number, with all other numbers 0.
+abbrev pub refused_listing : Refusal → Listed
+refused_listing refusal = record { refusal = number_of refusal; next = 0; passed = 0; records = 0 }

@@ -7,10 +7,14 @@ ghost use Rattle.cubes.specs.Candidates.{candidates_of, candidate_count};
 ghost use Rattle.cubes.specs.Records.{max_listed};
 ghost use Rattle.cubes.specs.Listing.{listing_fault, listing_answer, listing_after};
 ghost use Rattle.listing.specs.Starts.{StartsAt, PointAt};
-ghost use Rattle.listing.specs.Answers.{call_of, numbers_of};
+ghost use Rattle.listing.specs.Answers.{call_of, numbers_of, refused_listing};
+ghost use Rattle.table.specs.Answers.{refusal_number, settled};
+ghost use Rattle.walk.specs.Walk.{tally_after};
 
 use cubes::MAX_LISTED;
-use table::{PLACE_FAULT, SIZE_FAULT};
+use std::ops::ControlFlow;
+use table::{Answer, Refusal};
+use walk::Tally;
 
 // Where a listing starts: the degree of its first candidates, and how many of that degree are behind it.
 #[derive(Clone, Copy)]
@@ -48,17 +52,15 @@ fn start_at(n: usize, place: u64) -> Start
     requires { n ≤ max_listed }
     ensures { StartsAt n place result }
 {
-    let mut degree = n;
     let mut skip = place;
-    while degree > 0 {
+    for degree in (1..n + 1).rev() {
         let count = degree_count(n, degree);
         if skip < count {
             return Start { degree, skip };
         }
         skip -= count;
-        degree -= 1;
     }
-    Start { degree, skip }
+    Start { degree: 0, skip }
 }
 
 // The first least point of a listing, and how many candidates from that point on are still to be skipped.
@@ -74,39 +76,37 @@ fn point_at(n: usize, degree: usize, skip: u64) -> FirstPoint
     requires degree_le_n { degree ≤ n }
     ensures { PointAt n degree skip result }
 {
-    let counts = point_counts::table();
     let last: u64 = (1 << n) - 1;
-    let mut point = 0;
     let mut left = skip;
-    while point < last {
-        let count = point_counts::candidates_at_point(&counts, n, degree, point);
+    for point in 0..last {
+        let count = point_counts::candidates_at_point(n, degree, point);
         if left < count {
             return FirstPoint { point, skip: left };
         }
         left -= count;
-        point += 1;
     }
-    FirstPoint { point, skip: left }
+    FirstPoint {
+        point: last,
+        skip: left,
+    }
 }
 
-// The refusal of a listing call, or 0: those of the table, then too many variables, then a place above the number of candidates.
-fn listing_fault(n: usize, on: &[u16], free: &[u16], place: u64) -> u8
-    ensures { result ≡ listing_fault (call_of n on.now free.now place 0 []) }
+// The tests of a listing call: those of the table, then too many variables, then a place above the number of candidates.
+fn check_call(n: usize, on: &[u16], free: &[u16], place: u64) -> Result<(), Refusal>
+    ensures { refusal_number result ≡ listing_fault (call_of n on.now free.now place 0 []) }
 {
-    let fault = table::table_fault(n, on, free);
-    if fault != 0 {
-        return fault;
-    }
+    table::check_table(n, on, free)?;
     if n > MAX_LISTED {
-        return SIZE_FAULT;
+        return Err(Refusal::Size);
     }
     if place > candidate_count(n) {
-        return PLACE_FAULT;
+        return Err(Refusal::Place);
     }
-    0
+    Ok(())
 }
 
-// What a listing call returns: the refusal, or 0; the next place; how many candidates were passed; how many records were written.
+// What a listing call returns: the refusal, or 0; the next place; how many candidates were passed; how many records were written. C reads the
+// refusal as its number.
 #[repr(C)]
 #[derive(Clone, Copy)]
 pub struct Listed {
@@ -114,6 +114,65 @@ pub struct Listed {
     pub next: u64,
     pub passed: u64,
     pub records: usize,
+}
+
+impl Answer for Listed {
+    ghost refused_with = { refused_listing };
+
+    fn refused(refusal: Refusal) -> Listed {
+        Listed {
+            refusal: refusal.number(),
+            next: 0,
+            passed: 0,
+            records: 0,
+        }
+    }
+}
+
+// The tally with which a walk has ended, whether it stopped or came to the end.
+fn tally_of(walked: ControlFlow<Tally, Tally>) -> Tally
+    ensures { result ≡ tally_after walked }
+{
+    match walked {
+        ControlFlow::Continue(tally) | ControlFlow::Break(tally) => tally,
+    }
+}
+
+// The tests of the call, then the walk from its place on.
+fn try_list_primes(
+    n: usize,
+    on: &[u16],
+    free: &[u16],
+    place: u64,
+    allowance: u64,
+    room: &mut [u8],
+) -> Result<Listed, Refusal>
+    ensures numbers { numbers_of (settled refused_listing result) ≡ listing_answer (call_of n on.now free.now place allowance room.old) }
+    ensures room_after { room.new ≡ listing_after (call_of n on.now free.now place allowance room.old) }
+{
+    check_call(n, on, free, place)?;
+    let on_mask = masks::points::mask_of(on);
+    let free_mask = masks::points::mask_of(free);
+    let start = start_at(n, place);
+    let first = point_at(n, start.degree, start.skip);
+    let walked = walk::walk(
+        on_mask,
+        free_mask,
+        n,
+        start.degree,
+        first.point,
+        first.skip,
+        allowance,
+        &mut *room,
+    );
+    let tally = tally_of(walked);
+    let passed = allowance - tally.left;
+    Ok(Listed {
+        refusal: 0,
+        next: place + passed,
+        passed,
+        records: tally.written,
+    })
 }
 
 // The listing of the primes of a table from a place on, with an allowance of candidates; the records at the front of the room.
@@ -128,35 +187,5 @@ pub fn list_primes(
     ensures result_value { numbers_of result ≡ listing_answer (call_of n on.now free.now place allowance room.old) }
     ensures room_after { room.new ≡ listing_after (call_of n on.now free.now place allowance room.old) }
 {
-    let fault = listing_fault(n, on, free, place);
-    if fault != 0 {
-        return Listed {
-            refusal: fault,
-            next: 0,
-            passed: 0,
-            records: 0,
-        };
-    }
-    let on_mask = masks::points::mask_of(on);
-    let free_mask = masks::points::mask_of(free);
-    let start = start_at(n, place);
-    let first = point_at(n, start.degree, start.skip);
-    let tally = walk::walk(
-        on_mask,
-        free_mask,
-        n,
-        start.degree,
-        first.point,
-        first.skip,
-        allowance,
-        &mut *room,
-    );
-    let passed = allowance - tally.left;
-    let next = place + passed;
-    Listed {
-        refusal: 0,
-        next,
-        passed,
-        records: tally.written,
-    }
+    table::settle(try_list_primes(n, on, free, place, allowance, &mut *room))
 }

@@ -10,11 +10,9 @@ pub fn mask_of(points: &[u16]) -> u64
     requires { outside max_listed points.now ≡ false }
     ensures { MaskOf points.now result }
 {
-    let mut mask: u64 = 0;
-    let mut i = 0;
-    while i < points.len() {
-        mask = mask | (1 << table::flag_place(points[i]));
-        i += 1;
+    let mut mask = 0;
+    for &point in points {
+        mask |= 1 << table::flag_place(point);
     }
     mask
 }
@@ -26,11 +24,9 @@ pub fn every_point(mask: u64, entry: u64, d: usize) -> u64
 {
     let mut every = mask;
     let mut rest = entry;
-    let mut left = d;
-    while left > 0 {
-        every = every & moves::moved(every, rest % 256);
-        rest = rest / 256;
-        left -= 1;
+    for _ in 0..d {
+        every &= moves::moved(every, rest % 256);
+        rest /= 256;
     }
     every
 }

@@ -141,7 +141,7 @@ moved_on v k m t r a b x =
 pub moved-end : (v k m r : ℕ) → v < mask_size → k ≡ 6 → Moved (v % 2 ^ k) m r → Moved v m r
 moved-end v k m r h e = subst (λ (z : ℕ). Moved z m r) (ap (λ (z : ℕ). v % 2 ^ z) e ∙ mod-eq_of_lt h)
 
--- ---- four masks
+-- ---- several masks
 
 -- Past four words there is none.
 pub word-above : (s : List ℕ) (i : ℕ) → length s ≡ 4 → 4 ≤ i → get_or s i 0 ≡ 0
@@ -155,7 +155,19 @@ word-cases P a b c d p q r s h (suc (suc zero)) = r
 word-cases P a b c d p q r s h (suc (suc (suc zero))) = s
 word-cases P a b c d p q r s h (suc (suc (suc (suc i)))) = h (suc (suc (suc (suc i)))) (omega arith)
 
-pub each_of : (v : ℕ) (s : List ℕ) (a b c d : ℕ) → length s ≡ 4 → Moved v (get_or s 0 0) a → Moved v (get_or s 1 0) b → Moved v (get_or s 2 0) c
-    → Moved v (get_or s 3 0) d → EachMoved v s (a ∷ b ∷ c ∷ d ∷ [])
-each_of v s a b c d l p q r t =
-    word-cases (λ i w. Moved v (get_or s i 0) w) a b c d p q r t (λ i h x. rw (word-above s i l h) (bit-zero x ∙ sym (bit-zero (x ⊕ v))))
+-- The masks before place n are moved, those from n on stand as they were, and there are at most n.
+pub each_of : (v n : ℕ) (s r : List ℕ) → ((i : ℕ) → i < n → Moved v (get_or s i 0) (get_or r i 0)) → ((i : ℕ) → n ≤ i → get_or r i 0 ≡ get_or s i 0)
+    → length s ≤ n → EachMoved v s r
+each_of v n s r p q l i = elim (dec_le n i) [
+  | yes h ↦ rw (q i h, get_or-eq_default s 0 {n = i} (omega arith)) (λ x. bit-zero x ∙ sym (bit-zero (x ⊕ v)))
+  | no h ↦ p i (lt_of_not-le h)
+]
+
+-- One turn for all masks: the bit of v at place k, which is set, or clear.
+pub each-on : (v k : ℕ) (s t r : List ℕ) → v / 2 ^ k % 2 ≡ 1 → EachMoved (v % 2 ^ k) s t → EachMoved (2 ^ k) t r → EachMoved (v % 2 ^ (k + 1)) s r
+each-on v k s t r e a b i =
+    moved_on v k (get_or s i 0) (get_or t i 0) (get_or r i 0) (a i) (moved-one v k (get_or t i 0) (get_or r i 0) e (b i))
+
+pub each-off : (v k : ℕ) (s t : List ℕ) → v / 2 ^ k % 2 ≡ 0 → EachMoved (v % 2 ^ k) s t → EachMoved (v % 2 ^ (k + 1)) s t
+each-off v k s t e a i =
+    moved_on v k (get_or s i 0) (get_or t i 0) (get_or t i 0) (a i) (moved-clear v k (get_or t i 0) e)

@@ -15,29 +15,37 @@ use Rattle.gf2.specs.Finite.{holds}
 use Rattle.gf2.proofs.Finite.{append-mem}
 use Rattle.table.specs.Refusal.{Test, test, first_fault, Numbered, Exact, room_fault}
 use Rattle.table.specs.Decision.{decide, front, room_after, room_test}
-use Rattle.table.proofs.Refusal.{numbered}
+use Rattle.table.proofs.FirstFault.{numbered}
 use Rattle.table.proofs.Decide.{decide-accepted, decide-refused, decide-exact, call-refused, call-short, call-accepted}
 use Rattle.stored.specs.Layout.{table_length, longest_table}
 use Rattle.stored.specs.Encoding.{encode_table}
 use Rattle.pla_cubes.specs.Cubes.{Row}
-use Rattle.pla_cubes.specs.Meaning.{on_at, free_at}
+use Rattle.pla_cubes.specs.Meaning.{on_at, free_at, free_by}
 use Rattle.pla_cubes.specs.Flagging.{Flagged}
-use Rattle.pla_cubes.specs.declared.Flags.{Flags}
+use Rattle.pla_cubes.specs.declared.PointFlags.{PointFlags}
+use Rattle.pla_text.specs.declared.TableType.{TableType}
+use Rattle.std.proofs.Common.{Option}
 use Rattle.pla_lines.specs.declared.Head.{Head}
 use Rattle.pla_lines.specs.declared.Reading.{Reading}
+use Rattle.pla_lines.specs.Lines.{variables_of}
 use Rattle.pla_lines.specs.Reading.{Gathered, read_text}
 use Rattle.pla_lines.specs.Bounds.{GatheredBy}
 use Rattle.pla_lines.proofs.Going.{text-bounded}
-use Rattle.pla.specs.declared.PlaRead.{PlaRead}
+use Rattle.pla_lines.proofs.Judging.{fault-some}
+use Rattle.pla.specs.declared.PlaRefusal.{PlaRefusal}
+use Rattle.pla.specs.declared.PlaRefusal.TheVariants as refusal
 use Rattle.pla.specs.Table.{flag_on, flag_free, flag_marks, marks_of, stored_table}
-use Rattle.pla.specs.Answer.{end_tests, text_tests, table_found, pla_tests, accepted_pla, refused_pla, pla_answer, pla_after}
+use Rattle.pla.specs.Answer.{end_tests, text_tests, table_found, PlaRead, pla_tests, accepted_pla, refused_pla, pla_answer, pla_after, number_of}
 use Rattle.pla.proofs.Marking.{marks-ext, marks-few, table-length}
 
 -- ---- the flags give the marks of the rows
 
-pub flag-marks : (kind n : ℕ) (flags : Flags) (rows : List Row) → n ≤ max_variables → Flagged flags rows → flag_marks kind n flags ≡ marks_of kind n rows
+pub flag-marks : (kind : Option TableType) (n : ℕ) (flags : List PointFlags) (rows : List Row) → n ≤ max_variables → Flagged flags rows → flag_marks kind n flags ≡ marks_of kind n rows
 flag-marks kind n flags rows h f =
-    marks-ext _ _ _ _ (2 ^ n) (λ p l. let k : p < 2 ^ 12 = omega (arith, pow_mono h) in (f.ones p k, rw (f.zeros p k, f.dashes p k)))
+    marks-ext _ _ _ _ (2 ^ n) (λ p l. let k : p < 2 ^ 12 = omega (arith, pow_mono h) in (
+      ap (λ (said : PointFlags). said.one) (f.points p k),
+      ap (λ (said : PointFlags). free_by kind said.zero said.dash) (f.points p k),
+    ))
 
 -- ---- the tests of a text
 
@@ -88,8 +96,8 @@ pub found-fits : (output : ℕ) (text : List ℕ) → length (table_found (read_
 unfolding stored_table
 found-fits output text =
     let f = read_text output text in
-    let marks = marks_of f.head.kind f.head.variables f.rows in
-    omega (arith, table-length f.head.variables marks, marks-few (on_at f.rows) (free_at f.head.kind f.rows) (2 ^ f.head.variables), pow_mono (text-bounded output text))
+    let marks = marks_of f.head.kind (variables_of f.head) f.rows in
+    omega (arith, table-length (variables_of f.head) marks, marks-few (on_at f.rows) (free_at f.head.kind f.rows) (2 ^ variables_of f.head), pow_mono (text-bounded output text))
 
 -- So where the room has as many bytes, the tests of the text alone decide.
 pub pla-roomy : (text : List ℕ) (output : ℕ) (room : List ℕ) → longest_table ≤ length room
@@ -111,64 +119,74 @@ pla-roomy text output room h = go (ℕ_discrete (first_fault (text_tests output 
 
 -- ---- what the code has read
 
-module _ (text : List ℕ) (output : ℕ) (r : Reading) (a : GatheredBy r (read_text output text)) where
-  -- There are never more inputs than variables of a table, and never more marks than points.
-  pub few-inputs : r.head.variables ≤ max_variables
-  few-inputs = rw a.head (text-bounded output text)
+-- The answer where a line is at fault.
+pub line_refused : (text : List ℕ) (output : ℕ) (room : List ℕ) (fault line : ℕ) (reading : Reading) → GatheredBy fault line reading (read_text output text) → fault ≢ 0
+    → (◌≡◌ {A = PlaRead} (record { refusal = fault; line = line; length = 0 }) (pla_answer text output room)) × (room ≡ pla_after text output room)
+line_refused text output room fault line reading a n =
+    let m : (read_text output text).fault ≢ 0 = λ e. n (a.fault ∙ e) in
+    let k = pla-refused text output room (read_text output text).fault (line-fault output (read_text output text) m) m in
+    (answered a.fault ∙ k.0, k.1)
+  where
+    answered : {x y : ℕ} → x ≡ y → ◌≡◌ {A = PlaRead} (record { refusal = x; line = line; length = 0 }) (refused_pla (read_text output text) y)
+    answered e = rw (e, a.line)
 
-  pub few-marks : length (flag_marks r.head.kind r.head.variables r.flags) ≤ 4096
-  few-marks = omega (arith, marks-few (flag_on r.flags) (flag_free r.head.kind r.flags) (2 ^ r.head.variables), pow_mono few-inputs)
-
-  same-marks : flag_marks r.head.kind r.head.variables r.flags ≡ marks_of (read_text output text).head.kind (read_text output text).head.variables (read_text output text).rows
-  same-marks =
-      flag-marks r.head.kind r.head.variables r.flags (read_text output text).rows few-inputs a.flagged
-      ∙ ap (λ (h : Head). marks_of h.kind h.variables (read_text output text).rows) a.head
-
-  pub same-table : encode_table r.head.variables (flag_marks r.head.kind r.head.variables r.flags) ≡ table_found (read_text output text)
-  unfolding stored_table
-  same-table = ap (encode_table r.head.variables) same-marks ∙ ap (λ (h : Head). encode_table h.variables (marks_of (read_text output text).head.kind (read_text output text).head.variables (read_text output text).rows)) a.head
-
-  pub same-table-length : length (table_found (read_text output text)) ≡ table_length (length (flag_marks r.head.kind r.head.variables r.flags))
-  same-table-length = ap length (sym same-table) ∙ table-length r.head.variables (flag_marks r.head.kind r.head.variables r.flags)
-
+module _ (text : List ℕ) (output : ℕ) (r : Reading) (a : GatheredBy 0 0 r (read_text output text)) where
   -- The refusal at the end.
-  pub end-fault : {fault : ℕ} → r.fault ≡ 0 → fault ≡ first_fault (end_tests output r.head) → fault ≡ first_fault (text_tests output (read_text output text))
-  end-fault z e = e ∙ ap (λ (h : Head). first_fault (end_tests output h)) a.head ∙ end-faults output (read_text output text) (sym a.fault ∙ z)
+  pub end-fault : {fault : ℕ} → fault ≡ first_fault (end_tests output r.head) → fault ≡ first_fault (text_tests output (read_text output text))
+  end-fault e = e ∙ ap (λ (h : Head). first_fault (end_tests output h)) a.head ∙ end-faults output (read_text output text) (sym a.fault)
 
-  -- The answer where a line is at fault.
-  pub line_refused : {p : PlaRead} (room : List ℕ) → r.fault ≢ 0 → p ≡ record { refusal = r.fault; line = r.line; length = 0 }
-      → (p ≡ pla_answer text output room) × (room ≡ pla_after text output room)
-  line_refused room n q =
-      let m : (read_text output text).fault ≢ 0 = λ e. n (a.fault ∙ e) in
-      let k = pla-refused text output room (read_text output text).fault (line-fault output (read_text output text) m) m in
-      (q ∙ answered a.fault ∙ k.0, k.1)
-    where
-      answered : {x y : ℕ} → x ≡ y → ◌≡◌ {A = PlaRead} (record { refusal = x; line = r.line; length = 0 }) (refused_pla (read_text output text) y)
-      answered e = rw (e, a.line)
+  -- The answer where the end is.
+  pub end_refused : (room : List ℕ) (fault : ℕ) → fault ≡ first_fault (end_tests output r.head) → fault ≢ 0
+      → (◌≡◌ {A = PlaRead} (record { refusal = fault; line = 0; length = 0 }) (pla_answer text output room)) × (room ≡ pla_after text output room)
+  end_refused room fault e n =
+      let k = pla-refused text output room fault (end-fault e) n in
+      (ap (λ (l : ℕ). record { refusal = fault; line = l; length = 0 }) a.line ∙ k.0, k.1)
 
-  -- The answer where the end is, or the room is short.
-  pub end_refused : {p : PlaRead} (room : List ℕ) (fault : ℕ) → r.fault ≡ 0 → fault ≡ first_fault (end_tests output r.head) → fault ≢ 0 → p ≡ record { refusal = fault; line = r.line; length = 0 }
-      → (p ≡ pla_answer text output room) × (room ≡ pla_after text output room)
-  end_refused room fault z e n q =
-      let k = pla-refused text output room fault (end-fault z e) n in
-      (q ∙ ap (λ (l : ℕ). record { refusal = fault; line = l; length = 0 }) a.line ∙ k.0, k.1)
+  module _ (n : ℕ) (inputs : variables_of r.head ≡ n) where
+    -- There are never more inputs than variables of a table, and never more marks than points.
+    pub few-inputs : n ≤ max_variables
+    few-inputs = rw (← inputs, a.head) (text-bounded output text)
 
-  pub room-refused : {p : PlaRead} (room : List ℕ) → r.fault ≡ 0 → 0 ≡ first_fault (end_tests output r.head)
-      → length room < table_length (length (flag_marks r.head.kind r.head.variables r.flags)) → p ≡ record { refusal = room_fault; line = r.line; length = 0 }
-      → (p ≡ pla_answer text output room) × (room ≡ pla_after text output room)
-  room-refused room z e h q =
-      let k = pla-short text output room (sym (end-fault z e)) (omega (arith, same-table-length)) in
-      (q ∙ ap (λ (l : ℕ). record { refusal = room_fault; line = l; length = 0 }) a.line ∙ k.0, k.1)
+    pub few-marks : length (flag_marks r.head.kind n r.flags) ≤ 4096
+    few-marks = omega (arith, marks-few (flag_on r.flags) (flag_free r.head.kind r.flags) (2 ^ n), pow_mono few-inputs)
 
-  pub text-accepted : (room next : List ℕ) (long : ℕ) → r.fault ≡ 0 → 0 ≡ first_fault (end_tests output r.head)
-      → long ≡ table_length (length (flag_marks r.head.kind r.head.variables r.flags)) → long ≤ length room
-      → next ≡ front (encode_table r.head.variables (flag_marks r.head.kind r.head.variables r.flags)) room
-      → (◌≡◌ {A = PlaRead} (record { refusal = 0; line = 0; length = long }) (pla_answer text output room)) × (next ≡ pla_after text output room)
-  text-accepted room next long z e l h q =
-      let k = pla-accepted text output room (sym (end-fault z e)) (omega (arith, same-table-length)) in (
-        ap (λ (x : ℕ). record { refusal = 0; line = 0; length = x }) (l ∙ sym same-table-length) ∙ k.0,
-        q ∙ ap (λ (t : List ℕ). front t room) same-table ∙ k.1,
-      )
+    same-marks : flag_marks r.head.kind n r.flags ≡ marks_of (read_text output text).head.kind n (read_text output text).rows
+    same-marks =
+        flag-marks r.head.kind n r.flags (read_text output text).rows few-inputs a.flagged
+        ∙ ap (λ (h : Head). marks_of h.kind n (read_text output text).rows) a.head
+
+    pub same-table : encode_table n (flag_marks r.head.kind n r.flags) ≡ table_found (read_text output text)
+    unfolding stored_table
+    same-table =
+        ap (encode_table n) same-marks
+        ∙ ap (λ (k : ℕ). encode_table k (marks_of (read_text output text).head.kind k (read_text output text).rows)) (sym inputs ∙ ap variables_of a.head)
+
+    pub same-table-length : length (table_found (read_text output text)) ≡ table_length (length (flag_marks r.head.kind n r.flags))
+    same-table-length = ap length (sym same-table) ∙ table-length n (flag_marks r.head.kind n r.flags)
+
+    -- The answer where the room is short.
+    pub room-refused : (room : List ℕ) → 0 ≡ first_fault (end_tests output r.head) → length room < table_length (length (flag_marks r.head.kind n r.flags))
+        → (◌≡◌ {A = PlaRead} (record { refusal = room_fault; line = 0; length = 0 }) (pla_answer text output room)) × (room ≡ pla_after text output room)
+    room-refused room e h =
+        let k = pla-short text output room (sym (end-fault e)) (omega (arith, same-table-length)) in
+        (ap (λ (l : ℕ). record { refusal = room_fault; line = l; length = 0 }) a.line ∙ k.0, k.1)
+
+    pub text-accepted : (room next : List ℕ) (long : ℕ) → 0 ≡ first_fault (end_tests output r.head) → long ≡ table_length (length (flag_marks r.head.kind n r.flags)) → long ≤ length room
+        → next ≡ front (encode_table n (flag_marks r.head.kind n r.flags)) room
+        → (◌≡◌ {A = PlaRead} (record { refusal = 0; line = 0; length = long }) (pla_answer text output room)) × (next ≡ pla_after text output room)
+    text-accepted room next long e l h q =
+        let k = pla-accepted text output room (sym (end-fault e)) (omega (arith, same-table-length)) in (
+          ap (λ (x : ℕ). record { refusal = 0; line = 0; length = x }) (l ∙ sym same-table-length) ∙ k.0,
+          q ∙ ap (λ (t : List ℕ). front t room) same-table ∙ k.1,
+        )
+
+-- No refusal has the number 0.
+pub refusal-some : (refused : PlaRefusal) → number_of refused ≢ 0
+refusal-some (refusal.Line fault line) z = fault-some fault z
+refusal-some refusal.Head z = omega arith
+refusal-some refusal.Count z = omega arith
+refusal-some refusal.Output z = omega arith
+refusal-some refusal.Room z = omega arith
 
 -- ---- the length returned
 

@@ -8,16 +8,14 @@ use Rattle.gf2.specs.Finite.{all}
 use Rattle.table.specs.Refusal.{first_fault}
 use Rattle.table.specs.Table.{bad_count}
 use Rattle.stored.specs.Encoding.{encode_marks, encode_table}
-use Rattle.pla_text.specs.Text.{until, split, non_empty, symbols_of, same_bytes}
 use Rattle.pla_text.specs.Numbers.{with_digit, number_from}
 use Rattle.pla_text.specs.Statements.{type_of, end_of, operand_of, directive_of, statement_of}
-use Rattle.pla.specs.declared.PlaRead.{PlaRead}
 use Rattle.pla_cubes.specs.Cubes.{is_cube, covers, says}
 use Rattle.pla_cubes.specs.Meaning.{free_by, contradicts}
 use Rattle.pla_lines.specs.Lines.{line_fault, head_after}
 use Rattle.pla_lines.specs.Reading.{read_content, read_from, read_text}
 use Rattle.pla.specs.Table.{mark_of, marks_below, stored_table}
-use Rattle.pla.specs.Answer.{text_tests, pla_answer, pla_after}
+use Rattle.pla.specs.Answer.{PlaRead, text_tests, pla_answer, pla_after}
 
 -- The room of the examples.
 abbrev room : List ℕ
@@ -110,7 +108,7 @@ pub record Examples : Type 0 where
   pub output-0 : pla_answer (46 ∷ 105 ∷ 32 ∷ 49 ∷ 10 ∷ 46 ∷ 111 ∷ 32 ∷ 49 ∷ 10 ∷ 49 ∷ 32 ∷ 49 ∷ 10 ∷ []) 0 room ≡ refused 40 0
 
 pub examples : Examples
-unfolding bit all first_fault bad_count encode_marks encode_table until split non_empty symbols_of same_bytes with_digit number_from type_of end_of operand_of directive_of statement_of is_cube covers says free_by contradicts mark_of marks_below stored_table line_fault head_after read_content read_from read_text text_tests pla_answer pla_after
+unfolding bit all first_fault bad_count encode_marks encode_table with_digit number_from type_of end_of operand_of directive_of statement_of is_cube covers says free_by contradicts mark_of marks_below stored_table line_fault head_after read_content read_from read_text text_tests pla_answer pla_after
 examples =
     record {
       five = refl;

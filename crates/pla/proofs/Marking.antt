@@ -1,13 +1,15 @@
 -- Laws of specs.Table: the marks of one point more, and how many they are; their records stored one behind the other. Read next: Answering.
-use mathlib.Core.Path.{◌≡◌, refl, sym, ap, ◌∙◌}
+use mathlib.Core.Path.{◌≡◌, refl, sym, ap, ap₂, ◌∙◌}
 use mathlib.Core.Bool.{Bool, true, false, cond, ◌||◌}
 use mathlib.Core.List.{List, [], ◌∷◌, ◌++◌}
 use Prim.Native.Nat.{ℕ, zero, suc, ◌+◌, ◌*◌, ◌≤◌, ◌<◌}
 use native.Mathlib.Numerals.{add-one}
 use native.Mathlib.Decide.{ℕ_discrete}
 use native.Mathlib.Omega.{arith}
-use lib.ListN.{length, set, length-append}
-use lib.Seq.{sets}
+use lib.ListN.{length, take, get_or, set, length-append}
+use lib.Seq.{sets, take-suc}
+use Rattle.std.specs.List.{filter}
+use Rattle.std.proofs.lemmas.List.Elements.{filter-append}
 use Rattle.table.specs.Decision.{front}
 use Rattle.records.specs.Kinds.{variables_kind, on_kind, free_kind, encode_record, word_record_length, encode_end}
 use Rattle.table.proofs.Fill.{sets-append, sets-front}
@@ -18,13 +20,13 @@ use Rattle.pla.specs.Table.{mark_of, marks_below}
 
 -- ---- the mark of a point
 
--- At most one, and as many at every point.
 pub mark-length : (on free : Bool) (p : ℕ) → length (mark_of on free p) ≡ cond (on || free) 1 0
 unfolding mark_of
 mark-length true free p = refl
 mark-length false true p = refl
 mark-length false false p = refl
 
+-- At most one.
 pub mark-few : (on free : Bool) (p : ℕ) → length (mark_of on free p) ≤ 1
 unfolding mark_of
 mark-few true free p = omega arith
@@ -63,6 +65,22 @@ module _ (on free : ℕ → Bool) where
       go : Dec (j ≡ suc k) → (j ≤ k → length (marks_below on free j) ≤ length (marks_below on free k)) → length (marks_below on free j) ≤ length (marks_below on free (suc k))
       go (yes e) i = rw e (omega arith)
       go (no n) i = omega (arith, i (omega (arith, n)), length-append (marks_below on free k) (mark_of (on k) (free k) k))
+
+-- As many as points of which one of the two is said.
+pub marks-counted : {A : Type 0} (on free : A → Bool) (l : List A) (d : A) (k : ℕ) → k ≤ length l
+    → length (filter (λ a. on a || free a) (take k l)) ≡ length (marks_below (λ p. on (get_or l p d)) (λ p. free (get_or l p d)) k)
+unfolding marks_below
+marks-counted on free l d zero h = refl
+marks-counted on free l d (suc k) h =
+    rw (take-suc l k d (omega arith), filter-append (λ a. on a || free a) (take k l) (get_or l k d ∷ []))
+    (length-append (filter (λ a. on a || free a) (take k l)) (filter (λ a. on a || free a) (get_or l k d ∷ []))
+    ∙ ap₂ (λ a b. a + b) (marks-counted on free l d k (omega arith)) (one (on (get_or l k d)) (free (get_or l k d)))
+    ∙ sym (length-append (marks_below (λ p. on (get_or l p d)) (λ p. free (get_or l p d)) k) (mark_of (on (get_or l k d)) (free (get_or l k d)) k)))
+  where
+    one : (a b : Bool) → length (cond (a || b) (get_or l k d ∷ []) []) ≡ length (mark_of a b k)
+    one true b = sym (mark-length true b k)
+    one false true = sym (mark-length false true k)
+    one false false = sym (mark-length false false k)
 
 -- Tests that agree below the bound give the same marks.
 pub marks-ext : (on free on₁ free₁ : ℕ → Bool) (k : ℕ) → ((p : ℕ) → p < k → (on p ≡ on₁ p) × (free p ≡ free₁ p)) → marks_below on free k ≡ marks_below on₁ free₁ k

@@ -7,10 +7,8 @@ use mathlib.Core.List.{List, [], ◌∷◌, ◌++◌, map, append-nil}
 use Prim.Native.Nat.{ℕ, zero, suc, ◌^◌, ◌≤◌, ◌<◌}
 use native.Mathlib.Decide.{ℕ_discrete}
 use native.Mathlib.Omega.{arith}
-use lib.Dec.{eqb}
 use lib.ListN.{length}
 use lib.Pow.{pow_mono}
-use borrow.Author.Tests.{eqb-false}
 use Rattle.gf2.specs.Limits.{max_variables}
 use Rattle.gf2.specs.Finite.{Mem, holds, Rising, select}
 use Rattle.gf2.proofs.Logic.{or-none}
@@ -18,7 +16,7 @@ use Rattle.gf2.proofs.Finite.{map_snoc, select-mem, select-rising}
 use Rattle.table.specs.Flags.{max_points}
 use Rattle.table.specs.Refusal.{first_fault}
 use Rattle.table.specs.Decision.{front, room_test}
-use Rattle.table.proofs.Refusal.{no-fault, numbered, fault-before}
+use Rattle.table.proofs.FirstFault.{no-fault, numbered, fault-before}
 use Rattle.table.proofs.Decide.{decide-accepted, decide-refused}
 use Rattle.table.proofs.Table.{good-count, not-outside, not-unordered}
 use Rattle.stored.specs.Marks.{Mark, mark, marked_points, stored_variables, stored_on, stored_free}
@@ -28,10 +26,12 @@ use Rattle.stored.proofs.Encodings.{encoded-laid, encoded-variables, encoded-mar
 use Rattle.stored.proofs.Points.{points-append}
 use Rattle.pla_cubes.specs.Cubes.{Row}
 use Rattle.pla_cubes.specs.Meaning.{on_at, free_at}
+use Rattle.pla_text.specs.declared.TableType.{TableType}
+use Rattle.std.proofs.Common.{Option, is_none}
+use Rattle.pla_lines.specs.Lines.{variables_of}
 use Rattle.pla_lines.specs.Reading.{Gathered, read_text}
-use Rattle.pla_lines.proofs.Going.{text-bounded}
-use Rattle.pla.specs.declared.PlaRead.{PlaRead}
-use Rattle.pla.specs.Answer.{end_tests, text_tests, table_found, pla_tests, accepted_pla, refused_pla, pla_answer, pla_after}
+use Rattle.pla_lines.proofs.Going.{text-bounded, text-given}
+use Rattle.pla.specs.Answer.{end_tests, text_tests, table_found, PlaRead, pla_tests, accepted_pla, refused_pla, pla_answer, pla_after}
 use Rattle.pla.specs.Table.{mark_of, marks_below, stored_table}
 use Rattle.pla.proofs.Marking.{marks-few}
 use Rattle.pla.proofs.Answering.{line-fault, end-faults}
@@ -112,7 +112,7 @@ module _ (on free : ℕ → Bool) (n : ℕ) (some : 1 ≤ n) (few : n ≤ max_va
       }
 
 -- The stored table of rows.
-pub table-stored : (kind n : ℕ) (rows : List Row) → 1 ≤ n → n ≤ max_variables → Stored n (on_at rows) (free_at kind rows) (stored_table kind n rows)
+pub table-stored : (kind : Option TableType) (n : ℕ) (rows : List Row) → 1 ≤ n → n ≤ max_variables → Stored n (on_at rows) (free_at kind rows) (stored_table kind n rows)
 unfolding stored_table
 table-stored kind n rows some few = marks-stored (on_at rows) (free_at kind rows) n some few
 
@@ -144,17 +144,16 @@ module _ (text : List ℕ) (output : ℕ) (room : List ℕ) (accepts : (pla_answ
       go (yes e) = e
       go (no n) = line-fault output f n ∙ text-none
 
-  some-inputs : 1 ≤ f.head.variables
+  some-inputs : 1 ≤ variables_of f.head
   unfolding holds
   some-inputs =
       let e = (no-fault (end_tests output f.head) (numbered (end_tests output f.head) refl)).0 (end-faults output f no_line ∙ text-none) _ (inl refl) in
-      let z = eqb-false f.head.variables 0 (or-none (eqb f.head.variables 0) (eqb f.head.outputs 0) e).0 in
-      omega (arith, z)
+      text-given output text (or-none (is_none f.head.variables) (is_none f.head.outputs) e).0
 
   -- An accepted call has written the stored table of what was found, and it is accepted by the table's reader.
-  pub call-stored : Stored f.head.variables (on_at f.rows) (free_at f.head.kind f.rows) (table_found f) × (pla_after text output room ≡ front (table_found f) room)
+  pub call-stored : Stored (variables_of f.head) (on_at f.rows) (free_at f.head.kind f.rows) (table_found f) × (pla_after text output room ≡ front (table_found f) room)
   unfolding pla_after
   call-stored = (
-    table-stored f.head.kind f.head.variables f.rows some-inputs (text-bounded output text),
+    table-stored f.head.kind (variables_of f.head) f.rows some-inputs (text-bounded output text),
     decide-accepted (pla_tests output f room) (front (table_found f) room) (λ number. room) none,
   )

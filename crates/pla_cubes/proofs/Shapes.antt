@@ -5,10 +5,25 @@ use mathlib.Core.List.{List, [], ◌∷◌}
 use Prim.Native.Nat.{ℕ, zero, suc, ◌+◌, ◌-◌, ◌≤◌, ◌<◌}
 use native.Mathlib.Omega.{arith}
 use lib.Dec.{eqb}
-use lib.ListN.{length, drop, get_or, length-drop, get_or-eq_default}
-use lib.Seq.{get_or-drop}
+use native.Mathlib.Numerals.{add-one}
+use lib.ListN.{length, drop, get_or, length-drop, get_or-eq_default, drop_of_length-le}
+use lib.Seq.{get_or-drop, drop-cons}
 use borrow.Author.Tests.{ne_eqb}
+use Rattle.pla_text.specs.Text.{is_blank, symbols_of}
 use Rattle.pla_cubes.specs.Cubes.{is_input, is_output, is_cube, takes, row_of, tilde}
+
+-- ---- the symbols of a line one by one
+
+pub symbols-blank : (l : List ℕ) (i : ℕ) → i < length l → is_blank (get_or l i 0) ≡ true → symbols_of (drop i l) ≡ symbols_of (drop (i + 1) l)
+symbols-blank l i h e = rw (add-one, drop-cons l i 0 h, e)
+
+pub symbols-byte : (l : List ℕ) (i : ℕ) → i < length l → is_blank (get_or l i 0) ≡ false → symbols_of (drop i l) ≡ get_or l i 0 ∷ symbols_of (drop (i + 1) l)
+symbols-byte l i h e = rw (add-one, drop-cons l i 0 h, e)
+
+pub symbols-end : (l : List ℕ) (i : ℕ) → length l ≤ i → symbols_of (drop i l) ≡ []
+symbols-end l i h = rw (drop_of_length-le l {i = i} h)
+
+-- ---- which symbols make a cube
 
 -- An input, or an output once no input is to come, is taken.
 pub cube-input : (n o b : ℕ) (bs : List ℕ) → 0 < n → takes n o b ≡ true → is_cube n o (b ∷ bs) ≡ is_cube (n - 1) o bs

@@ -2,30 +2,40 @@
 // is in specs/, the laws about them in proofs/. Read next: specs/Cubes.antt.
 #![tactic(auto)]
 
-ghost use Rattle.std.specs.Prelude.{◌≡◌, false, ◌&&◌, ◌||◌, List, ◌∷◌, ℕ, ◌+◌, ◌≤◌, ◌<◌, length, get_or, take};
+ghost use Rattle.std.specs.Prelude.{◌≡◌, ◌||◌, List, ◌∷◌, ℕ, ◌+◌, ◌≤◌, ◌<◌, eqb, length, get_or, take};
 ghost use Rattle.gf2.specs.Limits.{max_variables};
 ghost use Rattle.table.specs.Flags.{max_points};
 ghost use Rattle.pla_text.specs.Text.{symbols_of};
 ghost use Rattle.pla_cubes.specs.Cubes.{Row, allows, covers, is_cube, is_input, is_output, max_outputs, row_of, takes};
 ghost use Rattle.pla_cubes.specs.Meaning.{apart_below};
-ghost use Rattle.pla_cubes.specs.Flagging.{Flagged};
+ghost use Rattle.pla_cubes.specs.Flagging.{Flagged, marked, unsaid};
 
 use gf2::MAX_VARIABLES;
 use table::MAX_POINTS;
 
-// What the cubes so far say, one flag to a point: a 1, a 0 or a dash covers it.
-#[derive(Clone, Copy)]
-pub struct Flags {
-    pub one: [bool; MAX_POINTS],
-    pub zero: [bool; MAX_POINTS],
-    pub dash: [bool; MAX_POINTS],
+// What the cubes so far say of a point: whether a 1, a 0 or a dash covers it.
+#[derive(Clone, Copy, Debug, PartialEq, Eq)]
+pub struct PointFlags {
+    pub one: bool,
+    pub zero: bool,
+    pub dash: bool,
 }
+
+// The flags of all points.
+pub type Flags = [PointFlags; MAX_POINTS];
+
+// No cube covers the point.
+pub const UNSAID: PointFlags = PointFlags {
+    one: false,
+    zero: false,
+    dash: false,
+};
 
 // A symbol of an input.
 fn is_input(symbol: u8) -> bool
     ensures { result ≡ is_input symbol }
 {
-    symbol == b'0' || symbol == b'1' || symbol == b'-'
+    matches!(symbol, b'0' | b'1' | b'-')
 }
 
 // A symbol of an output.
@@ -51,14 +61,11 @@ pub fn is_cube(content: &[u8], inputs: usize, outputs: usize) -> bool
 {
     let mut n = inputs;
     let mut o = outputs;
-    let mut i = 0;
-    while i < content.len() {
-        let symbol = content[i];
-        i += 1;
-        if pla_text::is_blank(symbol) {
+    for symbol in content {
+        if pla_text::is_blank(*symbol) {
             continue;
         }
-        if !takes(n, o, symbol) {
+        if !takes(n, o, *symbol) {
             return false;
         }
         if n > 0 {
@@ -76,11 +83,9 @@ pub fn inputs_of(content: &[u8], n: usize) -> [u8; MAX_VARIABLES]
     requires n_in_bounds { n ≤ length (symbols_of content.now) }
     ensures { take n result ≡ take n (symbols_of content.now) }
 {
-    let mut inputs = [0u8; MAX_VARIABLES];
-    let mut i = 0;
-    while i < n {
-        inputs[i] = pla_text::symbol_at(content, i);
-        i += 1;
+    let mut inputs = [b'-'; MAX_VARIABLES];
+    for i in 0..n {
+        inputs[i] = pla_text::symbol_at(content, i).unwrap_or(b'-');
     }
     inputs
 }
@@ -95,86 +100,69 @@ pub fn output_symbol(content: &[u8], n: usize, outputs: usize, output: usize) ->
     if output == 0 || output > outputs {
         return b'~';
     }
-    pla_text::symbol_at(content, n + (output - 1))
+    pla_text::symbol_at(content, n + (output - 1)).unwrap_or(b'~')
 }
 
 // An input's symbol allows the value.
 fn allows(symbol: u8, value: bool) -> bool
     ensures { result ≡ allows symbol value }
 {
-    if symbol == b'0' {
-        return !value;
+    match symbol {
+        b'0' => !value,
+        b'1' => value,
+        _ => true,
     }
-    if symbol == b'1' {
-        return value;
-    }
-    true
 }
 
 // The cube of these inputs covers the point.
-fn covers(inputs: [u8; MAX_VARIABLES], n: usize, point: u16) -> bool
-    requires { n ≤ max_variables }
-    ensures { result ≡ covers (take n inputs) point }
+fn covers(inputs: &[u8], point: u16) -> bool
+    requires { length inputs.now ≤ max_variables }
+    ensures { result ≡ covers inputs.now point }
 {
-    let mut i = 0;
-    while i < n {
-        let place = (n - 1 - i) as u32;
-        if !allows(inputs[i], gf2::bit(place, point)) {
+    for (i, symbol) in inputs.iter().enumerate() {
+        let place = (inputs.len() - 1 - i) as u32;
+        if !allows(*symbol, gf2::bit(place, point)) {
             return false;
         }
-        i += 1;
     }
     true
 }
 
-// The flags with those of the points that the cube covers, if it says so.
-fn mark(
-    inputs: [u8; MAX_VARIABLES],
-    n: usize,
-    says: bool,
-    mut flags: [bool; MAX_POINTS],
-) -> [bool; MAX_POINTS]
-    requires { n ≤ max_variables }
-    ensures { (p : ℕ) → p < max_points → get_or result p false ≡ (says && covers (take n inputs) p) || get_or flags p false }
+// What is said of a point, once a cube that covers it has this symbol.
+#[tactic(auto, unfolding(crate::specs::Flagging::marked))]
+fn marked(said: PointFlags, symbol: u8) -> PointFlags
+    ensures { result ≡ marked said symbol }
 {
-    if !says {
-        return flags;
+    match symbol {
+        b'1' => PointFlags { one: true, ..said },
+        b'0' => PointFlags { zero: true, ..said },
+        b'-' => PointFlags { dash: true, ..said },
+        _ => said,
     }
-    let mut i = 0;
-    while i < MAX_POINTS {
-        flags[i] = covers(inputs, n, i as u16) || flags[i];
-        i += 1;
-    }
-    flags
 }
 
 // The flags once a row with these inputs and this symbol is read too.
-pub fn flags_with(flags: Flags, inputs: [u8; MAX_VARIABLES], n: usize, symbol: u8) -> Flags
-    requires { n ≤ max_variables }
-    ensures { (rows : List Row) → Flagged flags rows → Flagged result (record { inputs = take n inputs; output = symbol } ∷ rows) }
+pub fn flags_with(flags: &Flags, inputs: &[u8], symbol: u8) -> Flags
+    requires { length inputs.now ≤ max_variables }
+    ensures { (rows : List Row) → Flagged flags.now rows → Flagged result (record { inputs = inputs.now; output = symbol } ∷ rows) }
 {
-    let one = flags.one;
-    let zero = flags.zero;
-    let dash = flags.dash;
-    Flags {
-        one: mark(inputs, n, symbol == b'1', one),
-        zero: mark(inputs, n, symbol == b'0', zero),
-        dash: mark(inputs, n, symbol == b'-', dash),
+    let mut next = *flags;
+    if !is_input(symbol) {
+        return next;
     }
+    for (point, said) in next.iter_mut().enumerate() {
+        if covers(inputs, point as u16) {
+            *said = marked(*said, symbol);
+        }
+    }
+    next
 }
 
-// No point of n variables has both flags.
-pub fn apart(a: [bool; MAX_POINTS], b: [bool; MAX_POINTS], n: usize) -> bool
+// No point of n variables has both a 1 and a 0.
+pub fn apart(flags: &Flags, n: usize) -> bool
     requires { n ≤ max_variables }
-    ensures { result ≡ apart_below (λ p. get_or a p false) (λ p. get_or b p false) n }
+    ensures { result ≡ apart_below (λ p. (get_or flags.now p unsaid).one) (λ p. (get_or flags.now p unsaid).zero) n }
 {
     let size = table::point_count(n) as usize;
-    let mut p = 0;
-    while p < size {
-        if a[p] && b[p] {
-            return false;
-        }
-        p += 1;
-    }
-    true
+    !flags[..size].iter().any(|said| said.one && said.zero)
 }

@@ -1,56 +1,46 @@
--- Laws of specs.Reading for line after line: the next line of a text, and reading it.
-use mathlib.Core.Path.{◌≡◌, refl, sym, ap, ◌∙◌}
-use mathlib.Core.Bool.{false}
+-- Laws of specs.Reading for line after line: the lines that are left, and reading the next. Read next: crate `pla`.
+use mathlib.Core.Path.{◌≡◌, refl, sym, ap, subst, ◌∙◌}
+use mathlib.Core.Bool.{Bool, true, false, cond}
 use mathlib.Core.Logic.{◌≢◌}
-use mathlib.Core.List.{List, [], ◌∷◌}
-use Prim.Native.Nat.{ℕ, suc, ◌+◌, ◌-◌, ◌≤◌, ◌<◌}
+use mathlib.Core.List.{List, [], ◌∷◌, ◌++◌}
+use Prim.Native.Nat.{ℕ, ◌+◌, ◌≤◌}
 use native.Mathlib.Decide.{ℕ_discrete}
 use native.Mathlib.Omega.{arith}
-use lib.ListN.{length, take, drop, get_or, replicate, length-drop, get_or-replicate}
-use lib.Seq.{drop-drop}
+use lib.ListN.{length, get_or, replicate, get_or-replicate}
 use borrow.Author.Tests.{eq-eqb, ne_eqb}
+use Rattle.std.specs.Bool.{MatchBool}
+use Rattle.std.specs.List.{All, IsFirstMatchOrLen}
+use Rattle.std.proofs.lemmas.Grind.{common_steps}
+use Rattle.std.proofs.lemmas.List.Splits.{slice_split_none, slice_split_at}
+use Rattle.std.proofs.Common.{is_none}
 use Rattle.gf2.specs.Limits.{max_variables}
 use Rattle.table.specs.Flags.{max_points}
-use Rattle.pla_text.specs.Text.{is_newline, is_hash, until, lines_of, content_of, words_of, symbols_of}
+use Rattle.pla_text.specs.Text.{is_newline, lines_of, content_of, words_of, symbols_of}
 use Rattle.pla_text.specs.Statements.{statement_of}
-use Rattle.pla_text.proofs.Parts.{until-length, until-take, until-all, split-last, split-first}
-use Rattle.pla_cubes.specs.Cubes.{Row, says, symbol0, symbol1, dash}
-use Rattle.pla_cubes.specs.Flagging.{Flagged}
+use Rattle.pla_cubes.specs.Cubes.{Row, says}
+use Rattle.pla_cubes.specs.Flagging.{Flagged, unsaid}
 use Rattle.pla_lines.specs.declared.Head.{Head}
 use Rattle.pla_lines.specs.declared.Reading.{Reading}
 use Rattle.pla_lines.specs.Reading.{Gathered, found, read_statement, read_content, read_from, read_text}
-use Rattle.pla_lines.specs.Lines.{no_head, line_fault}
+use Rattle.pla_lines.specs.Lines.{no_head, line_fault, variables_of}
 use Rattle.pla_lines.specs.Bounds.{Bounded, GatheredBy}
 use Rattle.pla_lines.proofs.Judging.{accepted-is, bounded-after}
 
--- ---- the next line
+-- ---- the lines that are left
 
--- What stands before a comment, as the code cuts it out.
-pub content-cut : (line : List ℕ) (end : ℕ) → end ≡ 0 + length (until is_hash (drop 0 line)) → (end ≤ length line) × (take end line ≡ content_of line)
-content-cut line end e =
-    let l : end ≡ length (until is_hash line) = omega arith in
-    (omega (arith, until-length is_hash line), ap (λ (k : ℕ). take k line) l ∙ sym (until-take is_hash line))
+-- By whether the last was taken, and by the text behind those taken.
+abbrev pub lines_left : Bool → List ℕ → List (List ℕ)
+lines_left done rest = cond done [] (lines_of rest)
 
-module _ (text : List ℕ) (from : ℕ) (inside : from ≤ length text) (end : ℕ) (ended : end ≡ from + length (until is_newline (drop from text))) where
-  pub line-inside : (from ≤ end) × (end ≤ length text)
-  line-inside = (omega arith, omega (arith, until-length is_newline (drop from text), length-drop from text))
-
-  cut : until is_newline (drop from text) ≡ take (end - from) (drop from text)
-  cut =
-      let l : length (until is_newline (drop from text)) ≡ end - from = omega arith in
-      until-take is_newline (drop from text) ∙ ap (λ (k : ℕ). take k (drop from text)) l
-
-  pub last_line : end ≡ length text → lines_of (drop from text) ≡ take (end - from) (drop from text) ∷ []
-  last_line e =
-      let all : length (until is_newline (drop from text)) ≡ length (drop from text) = omega (arith, length-drop from text) in
-      split-last is_newline (drop from text) all ∙ ap (λ (l : List ℕ). l ∷ []) (sym (until-all is_newline (drop from text) all) ∙ cut)
-
-  pub next-line : end < length text → lines_of (drop from text) ≡ take (end - from) (drop from text) ∷ lines_of (drop (end + 1) text)
-  next-line h =
-      let more : length (until is_newline (drop from text)) < length (drop from text) = omega (arith, length-drop from text) in
-      let past : from + suc (length (until is_newline (drop from text))) ≡ end + 1 = omega arith in
-      let rest = drop-drop (suc (length (until is_newline (drop from text)))) from text ∙ ap (λ (k : ℕ). drop k text) past in
-      split-first is_newline (drop from text) more ∙ rw (rest, cut)
+-- The next line is what stands before the first newline of the text that is left, or all of it.
+pub line-next : (done after : Bool) (rest behind line : List ℕ) → done ≡ false → MatchBool after (rest ≡ line) ((y : ℕ) × (rest ≡ line ++ (y ∷ behind)))
+    → IsFirstMatchOrLen is_newline rest (length line) → lines_left done rest ≡ line ∷ lines_left after behind
+line-next done true rest behind line d e h =
+    rw (d, e) (slice_split_none is_newline line (λ k x l. subst (λ (xs : List ℕ). is_newline (get_or xs k x) ≡ false) e (h.0 k x (omega arith) l)))
+line-next done false rest behind line d e h =
+    let before : All (λ b. is_newline b ≡ false) line = λ k x l. let a = h.0 k x (omega arith) l in let cut = e.1 in grind (arith, common_steps) in
+    let hit : is_newline e.0 ≡ true = let cut = e.1 in let a = h.1 (grind (arith, common_steps)) e.0 in grind (arith, common_steps) in
+    rw (d, e.1) (slice_split_at is_newline line e.0 behind before hit)
 
 -- ---- reading it
 
@@ -87,63 +77,52 @@ bounded-next output number head rows content b e =
 
 -- ---- a turn of the loop over lines
 
-module _ (text : List ℕ) (output from : ℕ) (inside : from ≤ length text) (end : ℕ) (ended : end ≡ from + length (until is_newline (drop from text)))
-    (number : ℕ) (head : Head) (rows : List Row) (r : Reading)
-    (agrees : GatheredBy r (read_content output number head rows (content_of (take (end - from) (drop from text)))))
-    (so_far : read_from output number head rows (lines_of (drop from text)) ≡ read_text output text) where
-  abbrev line : List ℕ
-  line = take (end - from) (drop from text)
+-- What is known before the line of a number: the lines that are left complete the reading.
+pub record Going (text : List ℕ) (output number : ℕ) (reading : Reading) (lines : List (List ℕ)) : Type 0 where
+  pub bounded : Bounded reading.head (number + 1)
+  pub rows : List Row
+  pub flagged : Flagged reading.flags rows
+  pub so_far : read_from output (number + 1) reading.head rows lines ≡ read_text output text
 
-  -- The lines that are left begin with this one.
-  first-line : (lines : List (List ℕ)) × (lines_of (drop from text) ≡ line ∷ lines)
-  first-line = go (ℕ_discrete end (length text))
-    where
-      go : Dec (end ≡ length text) → (lines : List (List ℕ)) × (lines_of (drop from text) ≡ line ∷ lines)
-      go (yes e) = ([], last_line text from inside end ended e)
-      go (no n) = (lines_of (drop (end + 1) text), next-line text from inside end ended (omega (arith, (line-inside text from inside end ended).1, n)))
+module _ (text : List ℕ) (output number : ℕ) (reading : Reading) (line : List ℕ) (lines : List (List ℕ)) (going : Going text output number reading (line ∷ lines)) where
+  -- A line at fault ends the reading.
+  pub going-stop : (fault : ℕ) (after : Reading) → fault ≢ 0 → GatheredBy fault (number + 1) after (read_content output (number + 1) reading.head going.rows (content_of line))
+      → GatheredBy fault (number + 1) after (read_text output text)
+  going-stop fault after n agrees =
+      let stop = read-stop output (number + 1) reading.head going.rows line lines (λ e. n (agrees.fault ∙ e)) in
+      rw (sym going.so_far ∙ stop) agrees
 
-  pub stopped : r.fault ≢ 0 → GatheredBy r (read_text output text)
-  stopped n =
-      let first = first-line in
-      let stop = read-stop output number head rows line first.0 (λ e. n (agrees.fault ∙ e)) in
-      let whole = sym so_far ∙ ap (read_from output number head rows) first.1 ∙ stop in
-      rw whole agrees
+  -- Another doesn't.
+  pub going-on : (after : Reading) → GatheredBy 0 0 after (read_content output (number + 1) reading.head going.rows (content_of line)) → Going text output (number + 1) after lines
+  going-on after agrees =
+      let f = read_content output (number + 1) reading.head going.rows (content_of line) in
+      let next = read_next output (number + 1) reading.head going.rows line lines (sym agrees.fault) in
+      record {
+        bounded = rw agrees.head (bounded-next output (number + 1) reading.head going.rows (content_of line) going.bounded (sym agrees.fault));
+        rows = f.rows;
+        flagged = agrees.flagged;
+        so_far = rw agrees.head (sym next ∙ going.so_far);
+      }
 
-  pub finished : end ≡ length text → GatheredBy r (read_text output text)
-  finished e = go (ℕ_discrete r.fault 0)
-    where
-      go : Dec (r.fault ≡ 0) → GatheredBy r (read_text output text)
-      go (no n) = stopped n
-      go (yes z) =
-          let last = read-last output number head rows line (sym agrees.fault ∙ z) in
-          let whole = sym so_far ∙ ap (read_from output number head rows) (last_line text from inside end ended e) ∙ last in
-          rw whole agrees
-
-  pub going : Bounded head number → r.fault ≡ 0 → end < length text
-      → Bounded r.head (number + 1) × ((rows₁ : List Row) × Flagged r.flags rows₁ × (read_from output (number + 1) r.head rows₁ (lines_of (drop (end + 1) text)) ≡ read_text output text))
-  going b z h =
-      let e = sym agrees.fault ∙ z in
-      let next = read_next output number head rows line (lines_of (drop (end + 1) text)) e in
-      let whole = sym next ∙ sym (ap (read_from output number head rows) (next-line text from inside end ended h)) ∙ so_far in (
-        rw agrees.head (bounded-next output number head rows (content_of line) b e),
-        ((read_content output number head rows (content_of line)).rows, agrees.flagged, rw agrees.head whole),
-      )
+-- Once none is left, what was read is what the text says.
+pub going-end : (text : List ℕ) (output number : ℕ) (reading : Reading) (lines : List (List ℕ)) → lines ≡ [] → Going text output number reading lines
+    → GatheredBy 0 0 reading (read_text output text)
+going-end text output number reading lines e going =
+    let all : found 0 0 reading.head going.rows ≡ read_text output text = sym (read_none output (number + 1) reading.head going.rows) ∙ ap (read_from output (number + 1) reading.head going.rows) (sym e) ∙ going.so_far in
+    rw (← all) (record { fault = refl; line = refl; head = refl; flagged = going.flagged })
 
 -- ---- before the first line
 
-clear_at : (b p : ℕ) → p < max_points → get_or (replicate max_points false) p false ≡ says b [] p
+none-bounded : Bounded no_head 1
+none-bounded = record { inputs = omega arith; given = λ e. let z : ◌≡◌ {A = ℕ} 0 1 = cc in absurd (omega arith); outputs = omega arith; cubes = omega arith }
+
+none-flagged : Flagged (replicate max_points unsaid) []
 unfolding says
-clear_at b p h = get_or-replicate max_points p false false h
+none-flagged = record { points = λ p h. get_or-replicate max_points p unsaid unsaid h }
 
-pub none-flagged : Flagged (record { one = replicate max_points false; zero = replicate max_points false; dash = replicate max_points false }) []
-none-flagged = record { ones = clear_at symbol1; zeros = clear_at symbol0; dashes = clear_at dash }
-
-pub none-bounded : Bounded no_head 1
-none-bounded = record { inputs = omega arith; outputs = omega arith; cubes = omega arith }
-
-pub text-start : (output : ℕ) (text : List ℕ) → read_from output 1 no_head [] (lines_of (drop 0 text)) ≡ read_text output text
+pub going-start : (text : List ℕ) (output : ℕ) → Going text output 0 (record { head = no_head; flags = replicate max_points unsaid }) (lines_of text)
 unfolding read_text
-text-start output text = refl
+going-start text output = record { bounded = none-bounded; rows = []; flagged = none-flagged; so_far = refl }
 
 -- ---- the number of inputs that was found
 
@@ -158,19 +137,26 @@ refused-head output number head rows content n = go (ℕ_discrete (line_fault ou
     go (yes z) n = absurd (n (rw z))
     go (no z) n = rw (ne_eqb (line_fault output head rows (symbols_of content) (statement_of (words_of content))) 0 z)
 
-from-bounded : (output number : ℕ) (head : Head) (rows : List Row) (lines : List (List ℕ)) → Bounded head number
-    → (read_from output number head rows lines).head.variables ≤ max_variables
-from-bounded output number head rows [] b = rw (read_none output number head rows) b.inputs
+-- The number of inputs is within its limits.
+abbrev Within : Head → Type 0
+Within head = (variables_of head ≤ max_variables) × (is_none head.variables ≡ false → 1 ≤ variables_of head)
+
+from-bounded : (output number : ℕ) (head : Head) (rows : List Row) (lines : List (List ℕ)) → Bounded head number → Within (read_from output number head rows lines).head
+from-bounded output number head rows [] b = rw (read_none output number head rows) (b.inputs, b.given)
 from-bounded output number head rows (line ∷ lines) b = go (ℕ_discrete f.fault 0) (λ e. from-bounded output (number + 1) f.head f.rows lines (bounded-next output number head rows (content_of line) b e))
   where
     f : Gathered
     f = read_content output number head rows (content_of line)
 
-    go : Dec (f.fault ≡ 0) → (f.fault ≡ 0 → (read_from output (number + 1) f.head f.rows lines).head.variables ≤ max_variables) → (read_from output number head rows (line ∷ lines)).head.variables ≤ max_variables
+    go : Dec (f.fault ≡ 0) → (f.fault ≡ 0 → Within (read_from output (number + 1) f.head f.rows lines).head) → Within (read_from output number head rows (line ∷ lines)).head
     go (yes e) k = rw (read_next output number head rows line lines e) (k e)
-    go (no n) k = rw (read-stop output number head rows line lines n, refused-head output number head rows (content_of line) n) b.inputs
+    go (no n) k = rw (read-stop output number head rows line lines n, refused-head output number head rows (content_of line) n) (b.inputs, b.given)
 
--- There are never more inputs than variables of a table.
-pub text-bounded : (output : ℕ) (text : List ℕ) → (read_text output text).head.variables ≤ max_variables
+-- There are never more inputs than variables of a table, and never none where their number is given.
+pub text-bounded : (output : ℕ) (text : List ℕ) → variables_of (read_text output text).head ≤ max_variables
 unfolding read_text
-text-bounded output text = from-bounded output 1 no_head [] (lines_of text) none-bounded
+text-bounded output text = (from-bounded output 1 no_head [] (lines_of text) none-bounded).0
+
+pub text-given : (output : ℕ) (text : List ℕ) → is_none (read_text output text).head.variables ≡ false → 1 ≤ variables_of (read_text output text).head
+unfolding read_text
+text-given output text = (from-bounded output 1 no_head [] (lines_of text) none-bounded).1

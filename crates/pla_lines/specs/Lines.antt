@@ -1,13 +1,15 @@
 -- The lines of a table: what is refused at each, and what is known after it. Read next: Reading.
-use Rattle.std.specs.Prelude.{Bool, true, false, not, ◌||◌, List, [], ◌∷◌, ◌++◌, ℕ, ◌+◌, eqb, leb, ltb}
+use Rattle.std.specs.Prelude.{Bool, true, false, not, ◌||◌, Option, None, Some, List, [], ◌∷◌, ◌++◌, ℕ, ◌+◌, eqb, ltb}
+use Rattle.std.specs.Option.{is_some, is_none, unwrap_or}
 use Rattle.table.specs.Refusal.{Test, test, first_fault}
 use Rattle.table.specs.Table.{bad_count}
 use Rattle.pla_text.specs.declared.Statement.{Statement}
 use Rattle.pla_text.specs.declared.Statement.TheVariants.{Empty, Wrong, Inputs, Outputs, Products, Meaning, Names, End, Cube}
-use Rattle.pla_text.specs.Numbers.{no_number}
 use Rattle.pla_cubes.specs.Cubes.{Row, is_cube, row_of, max_outputs}
 use Rattle.pla_cubes.specs.Meaning.{contradicts}
 use Rattle.pla_lines.specs.declared.Head.{Head}
+use Rattle.pla_lines.specs.declared.LineFault.{LineFault}
+use Rattle.pla_lines.specs.declared.LineFault.TheVariants as fault
 
 -- ---- the refusal numbers of a line
 
@@ -39,15 +41,28 @@ cube_fault = 36
 abbrev pub contradiction_fault : ℕ
 contradiction_fault = 37
 
+-- The number of each fault of a line.
+abbrev pub fault_number : LineFault → ℕ
+fault_number fault.Directive = directive_fault
+fault_number fault.Inputs = inputs_fault
+fault_number fault.Outputs = outputs_fault
+fault_number fault.Sequence = sequence_fault
+fault_number fault.AfterEnd = after_fault
+fault_number fault.Cube = cube_fault
+fault_number fault.Contradiction = contradiction_fault
+
 -- ---- what is known before a line
 
--- Nothing: numbers that are not given yet are 0, and so is the type.
+-- Nothing: no number is given yet, and no type.
 abbrev pub no_head : Head
-no_head = record { variables = 0; outputs = 0; kind = 0; counted = false; products = 0; cubes = 0; ended = false }
+no_head = record { variables = None; outputs = None; kind = None; products = None; cubes = 0; ended = false }
 
--- A number or a type was given; a cube was read.
-abbrev pub known : ℕ → Bool
-known number = not (eqb number 0)
+-- The numbers of inputs and outputs, or 0.
+abbrev pub variables_of : Head → ℕ
+variables_of head = unwrap_or head.variables 0
+
+abbrev pub outputs_of : Head → ℕ
+outputs_of head = unwrap_or head.outputs 0
 
 -- ---- what is refused at a line
 
@@ -57,24 +72,30 @@ after_end head = test after_fault head.ended
 
 -- A directive of the head is given once, and before the first cube.
 abbrev pub out_of_turn : Head → Bool → Test
-out_of_turn head given = test sequence_fault (given || known head.cubes)
+out_of_turn head given = test sequence_fault (given || not (eqb head.cubes 0))
 
--- The number of outputs is 0 or above the limit.
-abbrev pub bad_outputs : ℕ → Bool
-bad_outputs count = eqb count 0 || ltb max_outputs count
+-- The number of inputs is missing, 0 or above the limit.
+abbrev pub bad_inputs : Option ℕ → Bool
+bad_inputs None = true
+bad_inputs (Some count) = bad_count count
+
+-- The number of outputs is missing, 0 or above the limit.
+abbrev pub bad_outputs : Option ℕ → Bool
+bad_outputs None = true
+bad_outputs (Some count) = eqb count 0 || ltb max_outputs count
 
 -- The rows after a cube, the latest first.
 abbrev pub rows_with : ℕ → Head → List ℕ → List Row → List Row
-rows_with output head symbols rows = row_of head.variables output symbols ∷ rows
+rows_with output head symbols rows = row_of (variables_of head) output symbols ∷ rows
 
 -- The tests of a directive in their order.
 abbrev pub directive_tests : Head → Statement → List Test
 directive_tests head Empty = []
 directive_tests head Wrong = after_end head ∷ test directive_fault true ∷ []
-directive_tests head (Inputs count) = after_end head ∷ out_of_turn head (known head.variables) ∷ test inputs_fault (bad_count count) ∷ []
-directive_tests head (Outputs count) = after_end head ∷ out_of_turn head (known head.outputs) ∷ test outputs_fault (bad_outputs count) ∷ []
-directive_tests head (Products count) = after_end head ∷ out_of_turn head head.counted ∷ test directive_fault (leb no_number count) ∷ []
-directive_tests head (Meaning kind) = after_end head ∷ out_of_turn head (known head.kind) ∷ test directive_fault (eqb kind 0) ∷ []
+directive_tests head (Inputs count) = after_end head ∷ out_of_turn head (is_some head.variables) ∷ test inputs_fault (bad_inputs count) ∷ []
+directive_tests head (Outputs count) = after_end head ∷ out_of_turn head (is_some head.outputs) ∷ test outputs_fault (bad_outputs count) ∷ []
+directive_tests head (Products count) = after_end head ∷ out_of_turn head (is_some head.products) ∷ test directive_fault (is_none count) ∷ []
+directive_tests head (Meaning kind) = after_end head ∷ out_of_turn head (is_some head.kind) ∷ test directive_fault (is_none kind) ∷ []
 directive_tests head Names = after_end head ∷ []
 directive_tests head End = after_end head ∷ []
 directive_tests head Cube = []
@@ -83,14 +104,14 @@ directive_tests head Cube = []
 abbrev pub shape_tests : Head → List ℕ → List Test
 shape_tests head symbols =
     after_end head ∷
-    test sequence_fault (eqb head.variables 0 || eqb head.outputs 0) ∷
-    test cube_fault (not (is_cube head.variables head.outputs symbols)) ∷
+    test sequence_fault (is_none head.variables || is_none head.outputs) ∷
+    test cube_fault (not (is_cube (variables_of head) (outputs_of head) symbols)) ∷
     []
 
 -- The tests of a cube in their order: the last is about the rows before it and its own.
 abbrev pub cube_tests : ℕ → Head → List Row → List ℕ → List Test
 cube_tests output head rows symbols =
-    shape_tests head symbols ++ (test contradiction_fault (contradicts head.kind head.variables (rows_with output head symbols rows)) ∷ [])
+    shape_tests head symbols ++ (test contradiction_fault (contradicts head.kind (variables_of head) (rows_with output head symbols rows)) ∷ [])
 
 -- One thing for a cube, another for every other statement.
 abbrev pub for_cube : {A : Type 0} → Statement → A → A → A
@@ -114,13 +135,13 @@ line_fault output head rows symbols statement = first_fault (for_cube statement 
 unfoldable pub head_after : Head → Statement → Head
 head_after head Empty = head
 head_after head Wrong = head
-head_after head (Inputs count) = record { variables = count; outputs = head.outputs; kind = head.kind; counted = head.counted; products = head.products; cubes = head.cubes; ended = head.ended }
-head_after head (Outputs count) = record { variables = head.variables; outputs = count; kind = head.kind; counted = head.counted; products = head.products; cubes = head.cubes; ended = head.ended }
-head_after head (Products count) = record { variables = head.variables; outputs = head.outputs; kind = head.kind; counted = true; products = count; cubes = head.cubes; ended = head.ended }
-head_after head (Meaning kind) = record { variables = head.variables; outputs = head.outputs; kind = kind; counted = head.counted; products = head.products; cubes = head.cubes; ended = head.ended }
+head_after head (Inputs count) = record { variables = count; outputs = head.outputs; kind = head.kind; products = head.products; cubes = head.cubes; ended = head.ended }
+head_after head (Outputs count) = record { variables = head.variables; outputs = count; kind = head.kind; products = head.products; cubes = head.cubes; ended = head.ended }
+head_after head (Products count) = record { variables = head.variables; outputs = head.outputs; kind = head.kind; products = count; cubes = head.cubes; ended = head.ended }
+head_after head (Meaning kind) = record { variables = head.variables; outputs = head.outputs; kind = kind; products = head.products; cubes = head.cubes; ended = head.ended }
 head_after head Names = head
-head_after head End = record { variables = head.variables; outputs = head.outputs; kind = head.kind; counted = head.counted; products = head.products; cubes = head.cubes; ended = true }
-head_after head Cube = record { variables = head.variables; outputs = head.outputs; kind = head.kind; counted = head.counted; products = head.products; cubes = head.cubes + 1; ended = head.ended }
+head_after head End = record { variables = head.variables; outputs = head.outputs; kind = head.kind; products = head.products; cubes = head.cubes; ended = true }
+head_after head Cube = record { variables = head.variables; outputs = head.outputs; kind = head.kind; products = head.products; cubes = head.cubes + 1; ended = head.ended }
 
 -- A cube adds its row.
 abbrev pub rows_after : ℕ → Head → List Row → List ℕ → Statement → List Row

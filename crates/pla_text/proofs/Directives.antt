@@ -1,26 +1,21 @@
--- Laws of specs.Statements: of the number of words after a directive only none, one or more matters.
+-- Laws of specs.Statements: of the words of a line the first, the second, and whether there is a third, matter.
 use mathlib.Core.Path.{◌≡◌, refl}
-use mathlib.Core.List.{List}
-use Prim.Native.Nat.{ℕ, zero, suc}
+use mathlib.Core.List.{List, [], ◌∷◌}
+use Prim.Native.Nat.{ℕ, suc}
 use native.Mathlib.Omega.{arith}
-use borrow.Author.Tests.{le-ltb, ne_eqb}
-use Rattle.pla_text.specs.Statements.{end_of, directive_of, few}
+use lib.ListN.{length}
+use borrow.Author.Tests.{ne_eqb}
+use Rattle.std.specs.List.{slice_get}
+use Rattle.std.specs.Option.{is_some}
+use Rattle.pla_text.specs.Statements.{end_of, directive_of, words_told}
 
-pub few-none : few 0 ≡ 0
-unfolding few
-few-none = refl
-
-pub few-one : few 1 ≡ 1
-unfolding few
-few-one = refl
-
-pub few-more : (count : ℕ) → few (suc (suc count)) ≡ 2
-unfolding few
-few-more count = rw (le-ltb (suc (suc count)) 2 (omega arith))
-
-pub directive-few : (name : List ℕ) (count : ℕ) (word : List ℕ) → directive_of name (few count) word ≡ directive_of name count word
+-- Two words and more are as wrong as two.
+directive-more : (name word next : List ℕ) (words : List (List ℕ)) → directive_of name (word ∷ [] ∷ []) ≡ directive_of name (word ∷ next ∷ words)
 unfolding directive_of end_of
-directive-few name zero word = rw few-none
-directive-few name (suc zero) word = rw few-one
-directive-few name (suc (suc count)) word =
-    rw (few-more count, ne_eqb (suc (suc count)) 0 (λ e. omega arith), ne_eqb (suc (suc count)) 1 (λ e. omega arith))
+directive-more name word next words = rw (ne_eqb (suc (suc (length words))) 0 (λ e. omega arith), ne_eqb (suc (suc (length words))) 1 (λ e. omega arith)) refl
+
+pub directive-told : (name : List ℕ) (words : List (List ℕ)) → directive_of name (words_told (slice_get words 0) (is_some (slice_get words 1))) ≡ directive_of name words
+unfolding words_told
+directive-told name [] = refl
+directive-told name (word ∷ []) = refl
+directive-told name (word ∷ next ∷ words) = directive-more name word next words

@@ -1,5 +1,4 @@
--- Laws about the definitions in specs/, and about conditions of two tests; read in this order.
-pub mod Tests
+-- Laws about the definitions in specs/; read in this order.
 pub mod Parts
 pub mod Digits
 pub mod Directives

@@ -2,7 +2,7 @@
 use mathlib.Core.Path.{◌≡◌, refl, sym, ap, ◌∙◌, subst}
 use mathlib.Core.Logic.{◌≢◌}
 use mathlib.Core.List.{List}
-use Prim.Native.Nat.{ℕ, ◌-◌, ◌≤◌, ◌<◌}
+use Prim.Native.Nat.{ℕ, ◌≤◌, ◌<◌}
 use native.Mathlib.Decide.{dec_lt}
 use native.Mathlib.Omega.{arith}
 use lib.ListN.{length, take, drop}
@@ -16,8 +16,7 @@ use Rattle.streams.specs.Reading.{StartOf}
 use Rattle.text.specs.Writing.{Wrote}
 use Rattle.text.proofs.Writing.{wrote-part}
 use Rattle.pla_lines.specs.Reading.{Gathered, read_text}
-use Rattle.pla.specs.declared.PlaRead.{PlaRead}
-use Rattle.pla.specs.Answer.{table_found, text_tests, accepted_pla, refused_pla, pla_answer, pla_after}
+use Rattle.pla.specs.Answer.{PlaRead, table_found, text_tests, accepted_pla, refused_pla, pla_answer, pla_after}
 use Rattle.pla.proofs.Answering.{pla-roomy}
 use Rattle.pla_to_table.specs.declared.Lengths.{Lengths}
 use Rattle.pla_to_table.specs.Messages.{too_long, refused_message}
@@ -56,7 +55,7 @@ module _ {w : Written} {before text after table : List ℕ} {next : ℕ} (e : w 
     table-length = refl;
     table-bytes = refl;
     message-length = omega (arith, wrote.place);
-    message-bytes = let z : next ≡ next - 0 = omega arith in ap (λ (k : ℕ). take k after) z ∙ wrote-part h wrote;
+    message-bytes = wrote-part h wrote;
   })
 
 -- ---- by what `read_pla` answers

@@ -46,5 +46,6 @@ module _ (number line : ℕ) where
   pub message-room : (room : List ℕ) → length room ≡ message_room → number < 2 ^ 8 → line < 2 ^ 64 → HasRoom room 0 (refused_message number line)
   message-room room e h g = record { fits = omega (arith, message-fits h g) }
 
-  pub message-inside : {room after : List ℕ} {next : ℕ} → HasRoom room 0 (refused_message number line) → Wrote room 0 (refused_message number line) after next → next ≤ length after
-  message-inside h w = omega (arith, h.fits, w.place, wrote-length w)
+-- A text that had room lies in it once it is written.
+pub message-inside : {room text after : List ℕ} {next : ℕ} → HasRoom room 0 text → Wrote room 0 text after next → next ≤ length after
+message-inside h w = omega (arith, h.fits, w.place, wrote-length w)

@@ -10,7 +10,8 @@ ghost use Rattle.point_counts.specs.PointCounts.{point_counts};
 // The number of numbers in the table: 64 for each degree from 0 to 6.
 pub const COUNT_LENGTH: usize = 448;
 
-const COUNTS: [u16; COUNT_LENGTH] = [
+// A static is read where it stands; a constant would be stored anew at each use.
+static COUNTS: [u16; COUNT_LENGTH] = [
     1, 1, 1, 1, 1, 1, 1, 1, 1, 1, 1, 1, 1, 1, 1, 1, 1, 1, 1, 1, 1, 1, 1, 1, 1, 1, 1, 1, 1, 1, 1, 1,
     1, 1, 1, 1, 1, 1, 1, 1, 1, 1, 1, 1, 1, 1, 1, 1, 1, 1, 1, 1, 1, 1, 1, 1, 1, 1, 1, 1, 1, 1, 1, 1,
     63, 62, 61, 60, 59, 58, 57, 56, 55, 54, 53, 52, 51, 50, 49, 48, 47, 46, 45, 44, 43, 42, 41, 40,
@@ -30,11 +31,11 @@ const COUNTS: [u16; COUNT_LENGTH] = [
     0, 0, 0, 0, 0, 0, 0, 0, 0, 0, 0, 0, 0,
 ];
 
-// The whole table, for a loop over points.
-pub fn table() -> [u16; COUNT_LENGTH]
-    ensures { result ≡ point_counts }
+// The whole table.
+pub fn table() -> &'static [u16; COUNT_LENGTH]
+    ensures { result.now ≡ point_counts }
 {
-    COUNTS
+    &COUNTS
 }
 
 fn wide(count: u16) -> u64
@@ -44,13 +45,12 @@ fn wide(count: u16) -> u64
 }
 
 // How many candidates of n variables and degree d have the least point p: bases of d vectors with no lead bit of p's, nor one beyond n variables.
-pub fn candidates_at_point(counts: &[u16; COUNT_LENGTH], n: usize, d: usize, p: u64) -> u64
-    requires counts_value { counts.now ≡ point_counts }
+pub fn candidates_at_point(n: usize, d: usize, p: u64) -> u64
     requires n_le_max_listed { n ≤ max_listed }
     requires d_le_max_listed { d ≤ max_listed }
     requires p_bound { p < 2 ^ n }
     ensures { result ≡ length (candidates_at n d p) }
 {
     let avoided = bases::avoided(n, p) as usize;
-    wide(counts[d * 64 + avoided])
+    wide(table()[d * 64 + avoided])
 }

@@ -8,7 +8,7 @@ ghost use Rattle.point_marks.specs.Marks.{record_mark, MarksOf};
 
 use table::MAX_POINTS;
 
-// The three marks, as in specs/.
+// The three marks, as in specs/. Numbers and no enum: every other place compares them as bytes or writes them as such.
 pub const OFF_MARK: u8 = 0;
 
 pub const ON_MARK: u8 = 1;
@@ -27,13 +27,10 @@ pub fn marks_of(bytes: &[u8]) -> [u8; MAX_POINTS]
     requires { stored_fault bytes.now ≡ 0 }
     ensures { MarksOf bytes.now result }
 {
-    let count = stored::record_count(bytes);
     let mut marks = [OFF_MARK; MAX_POINTS];
-    let mut i = 0;
-    while i < count {
+    for i in 0..stored::record_count(bytes) {
         let place = table::flag_place(stored::point_at(bytes, i));
         marks[place] = record_mark(stored::is_marked(bytes, i, true));
-        i += 1;
     }
     marks
 }

@@ -4,14 +4,14 @@ use mathlib.Core.Path.{◌≡◌, sym, ap, ap₂, ◌∙◌, subst}
 use mathlib.Core.Bool.{Bool, true, false, ◌||◌, or-false}
 use mathlib.Core.Logic.{◌≢◌}
 use mathlib.Core.List.{List, [], ◌∷◌}
-use Prim.Native.Nat.{ℕ, zero, suc, ◌+◌, ◌-◌, ◌*◌, ◌/◌, ◌%◌, ◌^◌, ◌≤◌, ◌<◌}
+use Prim.Native.Nat.{ℕ, zero, suc, ◌+◌, ◌-◌, ◌*◌, ◌/◌, ◌%◌, ◌^◌, ◌≤◌, ◌<◌, max}
 use native.Mathlib.Nat.{lt_of_not-le, lt_of_le_of_lt}
 use native.Mathlib.Decide.{dec_le, ℕ_discrete}
 use native.Mathlib.Omega.{arith}
 use lib.Dec.{eqb}
 use lib.Count.{count_trailing_zeros}
 use lib.Pow.{shr_le, shr_lt}
-use lib.Bits.{bit_or, xor_comm, xor_mod, xor_shr, xor_zero_r}
+use lib.Bits.{bit_or, xor_lt, xor_mod, xor_shr}
 use lib.ListN.{length, get_or, set}
 use lib.Seq.{get_or-set_same, get_or-set_other}
 use borrow.Author.Tests.{eq-eqb, ne_eqb, eqb-true}
@@ -50,24 +50,27 @@ full-member x h =
 
 -- ---- sets joined
 
+-- What holds at each of the four places of a word holds below 4.
+pub each-word : (P : ℕ → Type 0) → P 0 → P 1 → P 2 → P 3 → (i : ℕ) → i < 4 → P i
+each-word P p q r s zero h = p
+each-word P p q r s (suc zero) h = q
+each-word P p q r s (suc (suc zero)) h = r
+each-word P p q r s (suc (suc (suc zero))) h = s
+each-word P p q r s (suc (suc (suc (suc i)))) h = absurd (omega arith)
+
 -- Two sets joined word by word, by an operation that joins bit by bit.
 pub joined-member : (op : ℕ → ℕ → ℕ) (test : Bool → Bool → Bool) → ((k a b : ℕ) → bit k (op a b) ≡ test (bit k a) (bit k b)) → test false false ≡ false
-    → (s t : List ℕ) → length s ≡ 4 → length t ≡ 4 → (x : ℕ)
-    → member (op (get_or s 0 0) (get_or t 0 0) ∷ op (get_or s 1 0) (get_or t 1 0) ∷ op (get_or s 2 0) (get_or t 2 0) ∷ op (get_or s 3 0) (get_or t 3 0) ∷ []) x
-    ≡ test (member s x) (member t x)
+    → (s t r : List ℕ) → length s ≡ 4 → length t ≡ 4 → length r ≡ 4 → ((i : ℕ) → i < 4 → get_or r i 0 ≡ op (get_or s i 0) (get_or t i 0))
+    → (x : ℕ) → member r x ≡ test (member s x) (member t x)
 unfolding member
-joined-member op test bits none s t l m x =
-    word-cases (λ i w. bit k w ≡ test (bit k (get_or s i 0)) (bit k (get_or t i 0))) (op (get_or s 0 0) (get_or t 0 0)) (op (get_or s 1 0) (get_or t 1 0))
-    (op (get_or s 2 0) (get_or t 2 0)) (op (get_or s 3 0) (get_or t 3 0)) (word 0) (word 1) (word 2) (word 3) above (x / mask_size)
+joined-member op test bits none s t r l m n words x = go (dec_le 4 (x / mask_size))
   where
     k : ℕ
     k = x % mask_size
 
-    word : (i : ℕ) → bit k (op (get_or s i 0) (get_or t i 0)) ≡ test (bit k (get_or s i 0)) (bit k (get_or t i 0))
-    word i = bits k (get_or s i 0) (get_or t i 0)
-
-    above : (i : ℕ) → 4 ≤ i → bit k 0 ≡ test (bit k (get_or s i 0)) (bit k (get_or t i 0))
-    above i h = rw (word-above s i l h, word-above t i m h, bit-zero k) (sym none)
+    go : Dec (4 ≤ x / mask_size) → bit k (get_or r (x / mask_size) 0) ≡ test (bit k (get_or s (x / mask_size) 0)) (bit k (get_or t (x / mask_size) 0))
+    go (yes h) = rw (word-above s (x / mask_size) l h, word-above t (x / mask_size) m h, word-above r (x / mask_size) n h, bit-zero k) (sym none)
+    go (no h) = ap (bit k) (words (x / mask_size) (lt_of_not-le h)) ∙ bits k (get_or s (x / mask_size) 0) (get_or t (x / mask_size) 0)
 
 -- ---- a point put in
 
@@ -95,25 +98,23 @@ put-member s p l h x = go (ℕ_discrete (x / mask_size) (p / mask_size))
 
 -- ---- a set moved by a vector
 
--- The words in the order that the high bits h of a vector give: what was at i XOR h comes to i.
-abbrev pub turned : List ℕ → ℕ → List ℕ
-turned s h = get_or s h 0 ∷ get_or s (h ⊕ 1) 0 ∷ get_or s (h ⊕ 2) 0 ∷ get_or s (h ⊕ 3) 0 ∷ []
+-- The high bits h of a vector name a word, with the place of another one.
+pub exchanged_word : (i h : ℕ) → i < 4 → h < 4 → i ⊕ h < 4
+exchanged_word i h f g = xor_lt 2 i h f g
 
-turned-word : (s : List ℕ) (h : ℕ) → length s ≡ 4 → h < 4 → (i : ℕ) → get_or (turned s h) i 0 ≡ get_or s (i ⊕ h) 0
-turned-word s h l f = word-cases (λ i w. w ≡ get_or s (i ⊕ h) 0) (get_or s h 0) (get_or s (h ⊕ 1) 0) (get_or s (h ⊕ 2) 0) (get_or s (h ⊕ 3) 0)
-    (ap at (sym (xor_zero_r h) ∙ xor_comm h 0)) (ap at (xor_comm h 1)) (ap at (xor_comm h 2)) (ap at (xor_comm h 3))
-    (λ i g. sym (word-above s (i ⊕ h) l (xor_above 2 i h g f)))
-  where
-    at : ℕ → ℕ
-    at i = get_or s i 0
-
--- The high bits of v exchange words, the others move each word.
-pub moved-member : (s r : List ℕ) (v h : ℕ) → length s ≡ 4 → v < set_size → h ≡ v / mask_size → EachMoved (v % mask_size) (turned s h) r
-    → (x : ℕ) → member r x ≡ member s (x ⊕ v)
+-- The high bits of v exchange words, so that what was at i XOR h comes to i, and the others move each word.
+pub moved-member : (s t r : List ℕ) (v h : ℕ) → length s ≡ 4 → length t ≡ 4 → v < set_size → h ≡ v / mask_size
+    → ((i : ℕ) → i < 4 → get_or t i 0 ≡ get_or s (i ⊕ h) 0) → EachMoved (v % mask_size) t r → (x : ℕ) → member r x ≡ member s (x ⊕ v)
 unfolding member
-moved-member s r v h l f e m x =
-    m (x / mask_size) (x % mask_size) ∙ ap (bit (x % mask_size ⊕ v % mask_size)) (turned-word s h l (omega arith) (x / mask_size))
+moved-member s t r v h l k f e words m x =
+    m (x / mask_size) (x % mask_size) ∙ ap (bit (x % mask_size ⊕ v % mask_size)) (word (x / mask_size))
     ∙ ap₂ (λ (j i : ℕ). bit j (get_or s i 0)) (sym (xor_mod x v 6)) (ap (λ (z : ℕ). x / mask_size ⊕ z) e ∙ sym (xor_shr x v 6))
+  where
+    word : (i : ℕ) → get_or t i 0 ≡ get_or s (i ⊕ h) 0
+    word i = elim (dec_le 4 i) [
+      | yes g ↦ word-above t i k g ∙ sym (word-above s (i ⊕ h) l (xor_above 2 i h g (omega arith)))
+      | no g ↦ words i (lt_of_not-le g)
+    ]
 
 -- ---- the points from a place on
 
@@ -136,11 +137,12 @@ rest_from s at x l h = let e : x ≡ at + (x - at) = omega arith in ap (member s
 abbrev pub NoneFrom : List ℕ → ℕ → ℕ → Type 0
 NoneFrom s from at = (x : ℕ) → from ≤ x → x < at → member s x ≡ false
 
--- Nothing is left of the word: none up to the next one.
-pub none-next : (s : List ℕ) (from at : ℕ) → NoneFrom s from at → rest_of s at ≡ 0 → NoneFrom s from ((at / mask_size + 1) * mask_size)
-none-next s from at n e x l h = elim (dec_le at x) [
+-- Nothing is left of a word from `at` on, which is where the word begins or, in the first word, the given number: none up to the next one.
+pub none-next : (s : List ℕ) (from word at : ℕ) → NoneFrom s from (word * mask_size) → at / mask_size ≡ word → at ≤ max from (word * mask_size) → rest_of s at ≡ 0
+    → NoneFrom s from ((word + 1) * mask_size)
+none-next s from word at n w m e x l h = elim (dec_le at x) [
   | yes g ↦ rest_from s at x g (omega arith) ∙ ap (bit (x - at)) e ∙ bit-zero (x - at)
-  | no g ↦ n x l (lt_of_not-le g)
+  | no g ↦ n x l (omega (arith, g))
 ]
 
 -- A count of trailing zeros of what is left finds the least point.

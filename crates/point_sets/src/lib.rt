@@ -9,6 +9,11 @@ ghost use Rattle.table.specs.Table.{outside};
 ghost use Rattle.moves.specs.Moves.{mask_size};
 ghost use Rattle.point_sets.specs.Sets.{set_variables, set_size, member, LeastFrom};
 
+use std::array;
+
+// The largest number of variables of a set, as `set_variables` in specs/.
+pub const SET_VARIABLES: usize = 8;
+
 // The number of points of a set, as `set_size` in specs/.
 pub const SET_SIZE: u16 = 256;
 
@@ -21,21 +26,14 @@ const WORD_SIZE: u16 = 64;
 // The empty set, and the set of all points.
 pub const NO_POINTS: [u64; SET_WORDS] = [0; SET_WORDS];
 
-pub const EVERY_POINT: [u64; SET_WORDS] = [0xFFFF_FFFF_FFFF_FFFF; SET_WORDS];
-
-// The words of a set, of which there are four.
-fn words(set: &[u64; SET_WORDS]) -> [u64; SET_WORDS]
-    ensures { result ≡ set.now }
-{
-    *set
-}
+pub const EVERY_POINT: [u64; SET_WORDS] = [u64::MAX; SET_WORDS];
 
 // The word that has the place of x.
 fn word_of(set: &[u64; SET_WORDS], x: u16) -> u64
     requires { x < set_size }
     ensures { result ≡ get_or set.now (x / mask_size) 0 }
 {
-    set[table::flag_place(x / WORD_SIZE)]
+    set[(x / WORD_SIZE) as usize]
 }
 
 // Whether the set holds x.
@@ -52,12 +50,8 @@ pub fn set_of(points: &[u16]) -> [u64; SET_WORDS]
     ensures { (x : ℕ) → member result x ≡ holds points.now x }
 {
     let mut set = NO_POINTS;
-    let mut i = 0;
-    while i < points.len() {
-        let p = points[i];
-        let word = table::flag_place(p / WORD_SIZE);
-        set[word] = set[word] | (1 << (p % WORD_SIZE));
-        i += 1;
+    for &p in points {
+        set[(p / WORD_SIZE) as usize] |= 1 << (p % WORD_SIZE);
     }
     set
 }
@@ -66,18 +60,14 @@ pub fn set_of(points: &[u16]) -> [u64; SET_WORDS]
 pub fn both(a: &[u64; SET_WORDS], b: &[u64; SET_WORDS]) -> [u64; SET_WORDS]
     ensures { (x : ℕ) → member result x ≡ member a.now x && member b.now x }
 {
-    let a = words(a);
-    let b = words(b);
-    [a[0] & b[0], a[1] & b[1], a[2] & b[2], a[3] & b[3]]
+    array::from_fn(|i| a[i] & b[i])
 }
 
 // The points that one of the sets holds, or both.
 pub fn either(a: &[u64; SET_WORDS], b: &[u64; SET_WORDS]) -> [u64; SET_WORDS]
     ensures { (x : ℕ) → member result x ≡ member a.now x || member b.now x }
 {
-    let a = words(a);
-    let b = words(b);
-    [a[0] | b[0], a[1] | b[1], a[2] | b[2], a[3] | b[3]]
+    array::from_fn(|i| a[i] | b[i])
 }
 
 // The set with each point x moved to x XOR v: the high bits of v exchange words, the others move each word.
@@ -85,15 +75,9 @@ pub fn moved_set(set: &[u64; SET_WORDS], v: u16) -> [u64; SET_WORDS]
     requires { v < set_size }
     ensures { (x : ℕ) → member result x ≡ member set.now (x ⊕ v) }
 {
-    let words = words(set);
-    let word = table::flag_place(v / WORD_SIZE);
-    let turned = [
-        words[word],
-        words[word ^ 1],
-        words[word ^ 2],
-        words[word ^ 3],
-    ];
-    moves::each_moved(turned, (v % WORD_SIZE) as u64)
+    let high = (v / WORD_SIZE) as usize;
+    let exchanged = array::from_fn(|i| set[i ^ high]);
+    moves::each_moved(exchanged, (v % WORD_SIZE) as u64)
 }
 
 // The least number from a given one on that the set holds, or the number of points where it holds none, by counts of trailing zeros.
@@ -101,13 +85,12 @@ pub fn least_from(set: &[u64; SET_WORDS], from: u16) -> u16
     requires { from ≤ set_size }
     ensures { LeastFrom set.now from result }
 {
-    let mut at = from;
-    while at < SET_SIZE {
+    for word in from / WORD_SIZE..SET_SIZE / WORD_SIZE {
+        let at = from.max(word * WORD_SIZE);
         let rest = word_of(set, at) >> (at % WORD_SIZE);
         if rest != 0 {
-            return at + u64::trailing_zeros(rest) as u16;
+            return at + rest.trailing_zeros() as u16;
         }
-        at = (at / WORD_SIZE + 1) * WORD_SIZE;
     }
     SET_SIZE
 }

@@ -11,10 +11,11 @@ pub fn lowest(mask: u16) -> u32
     requires { 0 < mask }
     ensures { result ≡ lowest mask }
 {
-    u16::trailing_zeros(mask)
+    mask.trailing_zeros()
 }
 
-// Whether a factor is true at a point: the number of mask bits set in it is odd for constant 1, even for constant 0.
+// Whether a factor is true at a point: the number of mask bits set in it is odd for constant 1, even for constant 0. The constant is a number and no `bool`,
+// since that of a record can be any byte.
 pub fn factor_at(constant: u8, mask: u16, point: u16) -> bool
     ensures { result ≡ factor_at (factor constant mask) point }
 {

@@ -37,7 +37,7 @@ fn drop_places(mask: u16, w: u16) -> u16
     while left != 0 {
         let place = gf2::lead(left);
         point = drop_place(place, point);
-        left = left ^ (1 << place);
+        left ^= 1 << place;
     }
     point
 }
@@ -61,14 +61,9 @@ pub fn equation(basis: Basis, place: u32) -> u16
     requires place_lt_max_variables { place < max_variables }
     ensures { result ≡ equation (vectors_of basis) place }
 {
-    let vectors = basis.vectors;
-    let len = basis.len;
     let mut mask: u16 = 1 << place;
-    let mut i = 0;
-    while i < len {
-        let b = vectors[i];
-        mask = mask ^ lead_term(b, place);
-        i += 1;
+    for &b in basis.as_slice() {
+        mask ^= lead_term(b, place);
     }
     mask
 }
@@ -81,22 +76,21 @@ pub fn equations(basis: Basis, n: usize) -> ShortList
 {
     let leads = basis.leads();
     let mut found = ShortList::EMPTY;
-    let mut k = n;
-    while k > 0 {
-        k -= 1;
-        if !gf2::bit(k as u32, leads) {
-            found = found.push(equation(basis, k as u32));
+    for k in (0..n as u32).rev() {
+        if !gf2::bit(k, leads) {
+            found = found.push(equation(basis, k));
         }
     }
     found
 }
 
 // Whether the point w has its flag and no bit of the lead mask.
+#[tactic(auto, unfolding(crate::specs::Masks::is_kept))]
 fn is_kept(flags: &[bool; MAX_POINTS], leads: u16, w: u16) -> bool
     requires { w < 2 ^ max_variables }
     ensures { result ≡ is_kept leads (flagged flags.now) w }
 {
-    let p = table::flag_place(w);
+    let p = usize::from(w);
     flags[p] && (leads & w) == 0
 }
 
@@ -105,36 +99,13 @@ pub fn count_kept(flags: &[bool; MAX_POINTS], leads: u16, n: usize) -> usize
     requires { n ≤ max_variables }
     ensures { result ≡ length (kept n leads (flagged flags.now)) }
 {
-    let size = table::point_count(n);
     let mut count = 0;
-    let mut w: u16 = 0;
-    while w < size {
+    for w in 0..table::point_count(n) {
         if is_kept(flags, leads, w) {
             count += 1;
         }
-        w += 1;
     }
     count
-}
-
-// One turn of `write_kept`: the point w, if it is kept, behind the count that are written already; and the new count.
-fn write_point(
-    flags: &[bool; MAX_POINTS],
-    leads: u16,
-    w: u16,
-    count: usize,
-    room: &mut [u16],
-) -> usize
-    requires w_bound { w < 2 ^ max_variables }
-    requires count_in_bounds { is_kept leads (flagged flags.now) w ≡ true → count < length room.old }
-    ensures value { result ≡ cond (is_kept leads (flagged flags.now) w) (count + 1) count }
-    ensures by_index { (n : ℕ) → w < 2 ^ n → room.new ≡ cond (is_kept leads (flagged flags.now) w) (set room.old count (project (places_clear n leads) w)) room.old }
-{
-    if !is_kept(flags, leads, w) {
-        return count;
-    }
-    room[count] = drop_places(leads, w);
-    count + 1
 }
 
 // The points of n variables that have their flag and no bit of the lead mask, with the places of that mask dropped, rising, at the front of
@@ -144,28 +115,26 @@ pub fn write_kept(flags: &[bool; MAX_POINTS], leads: u16, n: usize, room: &mut [
     requires flags_in_bounds { length (kept n leads (flagged flags.now)) ≤ length room.old }
     ensures { room.new ≡ front (kept n leads (flagged flags.now)) room.old }
 {
-    let size = table::point_count(n);
     let mut count = 0;
-    let mut w: u16 = 0;
-    while w < size {
-        count = write_point(flags, leads, w, count, &mut *room);
-        w += 1;
+    for point in 0..table::point_count(n) {
+        if is_kept(flags, leads, point) {
+            room[count] = drop_places(leads, point);
+            count += 1;
+        }
     }
 }
 
-// The reduced basis of the directions of the smallest affine space of the points: the first XOR each other, put in one at a time. Its least
-// point is the first point, reduced by that basis.
+// The reduced basis of the directions of the smallest affine space of the points: each XOR the first, put in one at a time, of which
+// the first itself adds nothing. Its least point is the first point, reduced by that basis.
 pub fn directions(on: &[u16]) -> Basis
-    requires on_nonzero { 0 < length on.now }
-    requires on_value { outside max_variables on.now ≡ false }
+    requires some_point { 0 < length on.now }
+    requires points_inside { outside max_variables on.now ≡ false }
     ensures { Built result (directions on.now) (Span (differences on.now)) }
 {
     let first = on[0];
     let mut basis = Basis::EMPTY;
-    let mut i = 1;
-    while i < on.len() {
-        basis = basis.insert(on[i] ^ first);
-        i += 1;
+    for &p in on {
+        basis = basis.insert(p ^ first);
     }
     basis
 }
@@ -173,15 +142,13 @@ pub fn directions(on: &[u16]) -> Basis
 // The points of n variables with the places clear in the lead mask dropped, in their order, at the front of the room.
 pub fn write_projection(on: &[u16], leads: u16, n: usize, room: &mut [u16])
     requires n_le_max_variables { n ≤ max_variables }
-    requires on_value { outside n on.now ≡ false }
-    requires on_in_bounds { length on.now ≤ length room.old }
+    requires points_inside { outside n on.now ≡ false }
+    requires room_enough { length on.now ≤ length room.old }
     ensures { room.new ≡ front (projected n leads on.now) room.old }
 {
     let all = table::point_count(n) - 1;
     let others = leads ^ all;
-    let mut i = 0;
-    while i < on.len() {
-        room[i] = drop_places(others, on[i]);
-        i += 1;
+    for (i, &p) in on.iter().enumerate() {
+        room[i] = drop_places(others, p);
     }
 }

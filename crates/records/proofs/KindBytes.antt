@@ -10,10 +10,10 @@ use lib.Dec.{eqb}
 use borrow.Author.Tests.{eqb-true}
 use Rattle.records.specs.declared.Kind.{Kind}
 use Rattle.records.specs.declared.Kind.TheVariants.{Variables, Product, Factor, End, On, Free}
-use Rattle.records.specs.declared.Walk.TheVariants.{WrongKind}
-use Rattle.records.specs.declared.RecordHead.{RecordHead}
-use Rattle.records.specs.declared.RecordHead.TheVariants.{Known, Refused}
 use Rattle.records.specs.Kinds.{variables_kind, product_kind, factor_kind, end_kind, on_kind, free_kind, kind_byte, body_length, known, head_of, word_of, low_byte, high_byte, Bytes, encode_end}
+use Rattle.table.specs.declared.BytesFault.TheVariants.{WrongKind}
+use Rattle.records.specs.Kinds.{RecordHead}
+use Rattle.std.specs.Prelude.{Ok, Err}
 
 -- That byte is decided as that kind, wherever it stands.
 pub head_byte : (kind : Kind) (place : ℕ) → head_of (kind_byte kind) place ≡ known kind
@@ -27,8 +27,8 @@ head_byte Free place = refl
 
 -- What is decided: a kind that has this byte, with the length of its body, or that the kind at the place is wrong.
 abbrev Decided : ℕ → ℕ → RecordHead → Type 0
-Decided byte place (Known kind l) = (byte ≡ kind_byte kind) × (l ≡ body_length kind)
-Decided byte place (Refused fault) = fault ≡ WrongKind place
+Decided byte place (Ok (kind, l)) = (byte ≡ kind_byte kind) × (l ≡ body_length kind)
+Decided byte place (Err fault) = fault ≡ WrongKind place
 
 decided : (byte place : ℕ) → Decided byte place (head_of byte place)
 unfolding head_of
@@ -44,16 +44,16 @@ decided byte place =
     tested true kind other p q = (p refl, refl)
     tested false kind other p q = q
 
-pub head-known : (byte place : ℕ) {kind : Kind} {l : ℕ} → head_of byte place ≡ Known kind l → (byte ≡ kind_byte kind) × (l ≡ body_length kind)
+pub head-known : (byte place : ℕ) {kind : Kind} {l : ℕ} → head_of byte place ≡ Ok (kind, l) → (byte ≡ kind_byte kind) × (l ≡ body_length kind)
 head-known byte place e = subst (Decided byte place) e (decided byte place)
 
 -- Whatever holds of each known kind that has the byte, and of the refusal, holds of the decision.
-pub head-cases : (Q : RecordHead → Type 0) (byte place : ℕ) → ((kind : Kind) → byte ≡ kind_byte kind → Q (known kind)) → Q (Refused (WrongKind place)) → Q (head_of byte place)
+pub head-cases : (Q : RecordHead → Type 0) (byte place : ℕ) → ((kind : Kind) → byte ≡ kind_byte kind → Q (known kind)) → Q (Err (WrongKind place)) → Q (head_of byte place)
 head-cases Q byte place f g = go (head_of byte place) (decided byte place)
   where
     go : (h : RecordHead) → Decided byte place h → Q h
-    go (Known kind l) d = rw d.1 (f kind d.0)
-    go (Refused fault) d = rw d g
+    go (Ok (kind, l)) d = rw d.1 (f kind d.0)
+    go (Err fault) d = rw d g
 
 -- The two bytes of a number give it back, and two bytes are those of their number.
 pub word-of-bytes : (word : ℕ) → word_of (low_byte word) (high_byte word) ≡ word

@@ -1,4 +1,4 @@
--- The tests of the layout give what the walk found: its number and its place, where that number is among those that are tested. Read next: Places.
+-- The tests of the layout give what the walk found: its number and its place, where that number is among those that are tested. Read next: Results.
 use mathlib.Core.Path.{◌≡◌, refl, sym, ◌∙◌}
 use mathlib.Core.Bool.{Bool, true, false, cond, not}
 use mathlib.Core.Logic.{inl, inr, ◌≢◌}
@@ -10,9 +10,10 @@ use Rattle.gf2.specs.Finite.{Mem, holds}
 use Rattle.gf2.proofs.Logic.{clash}
 use Rattle.gf2.proofs.Finite.{holds-mem}
 use Rattle.table.specs.Refusal.{first_fault, first_place}
-use Rattle.records.specs.declared.Walk.{Walk}
-use Rattle.records.specs.declared.Walk.TheVariants.{Laid, WrongKind, Missing, WrongVariables, WrongFactor, NotCanonical, WrongCount, After, TooMany}
 use Rattle.records.specs.Walks.{fault_number, fault_place, is_fault, layout_tests}
+use Rattle.table.specs.declared.BytesFault.TheVariants.{WrongKind, Missing, WrongVariables, WrongFactor, NotCanonical, WrongCount, After, TooMany}
+use Rattle.records.specs.Walks.{Walk}
+use Rattle.std.specs.Prelude.{Ok, Err}
 
 -- A walk that met no fault found what was asked for, and has no number and no place.
 pub no_number : (found : Walk) → is_fault found ≡ false → fault_number found ≡ 0
@@ -32,15 +33,15 @@ pub none-fault : (found : Walk) → fault_number found ≡ 0 → is_fault found 
 none-fault found e = rw (eq-eqb (fault_number found) 0 e)
 
 pub no_place : (found : Walk) → is_fault found ≡ false → fault_place found ≡ 0
-no_place (Laid count) e = refl
-no_place (WrongKind place) e = clash refl e
-no_place (Missing place) e = clash refl e
-no_place (WrongVariables place) e = clash refl e
-no_place (WrongFactor place) e = clash refl e
-no_place (NotCanonical place) e = clash refl e
-no_place (WrongCount place) e = clash refl e
-no_place (After place) e = clash refl e
-no_place (TooMany place) e = clash refl e
+no_place (Ok count) e = refl
+no_place (Err (WrongKind place)) e = clash refl e
+no_place (Err (Missing place)) e = clash refl e
+no_place (Err (WrongVariables place)) e = clash refl e
+no_place (Err (WrongFactor place)) e = clash refl e
+no_place (Err (NotCanonical place)) e = clash refl e
+no_place (Err (WrongCount place)) e = clash refl e
+no_place (Err (After place)) e = clash refl e
+no_place (Err (TooMany place)) e = clash refl e
 
 -- The tests give the number and the place of a fault that they know.
 module _ (found : Walk) where

@@ -18,12 +18,6 @@ use Rattle.gf2.proofs.Finite.{mem-map, map-mem, append-mem}
 use Rattle.table.specs.Refusal.{Test, test_at, bytes_missing_fault, bytes_after_fault}
 use Rattle.records.specs.declared.Kind.{Kind}
 use Rattle.records.specs.declared.Kind.TheVariants.{Variables, Product, Factor, End, On, Free}
-use Rattle.records.specs.declared.RecordHead.{RecordHead}
-use Rattle.records.specs.declared.RecordHead.TheVariants.{Refused}
-use Rattle.records.specs.declared.Walk.{Walk}
-use Rattle.records.specs.declared.Walk.TheVariants.{Laid, WrongKind, Missing, WrongVariables, WrongFactor, NotCanonical, WrongCount, After, TooMany}
-use Rattle.records.specs.declared.Step.{Step}
-use Rattle.records.specs.declared.Step.TheVariants.{Whole, Stop}
 use Rattle.records.specs.Kinds.{kind_byte, body_length, known, head_of, Bytes, encode_end}
 use Rattle.records.specs.Walks.{after_end, walk_by, bytes_missing, fault_number, fault_place}
 use Rattle.records.specs.Faults.{Record, record_of, IsWhole, AllWhole, record_bytes, records_bytes, place_after, is_end, ended, Rules, counted_in, is_closed, kind_faults, body_faults, missing_faults, body_or_missing, faults_after, Applies, fault_end}
@@ -31,18 +25,24 @@ use Rattle.records.proofs.KindBytes.{head_byte, head-cases, word-of-bytes}
 use Rattle.records.proofs.Walking.{pass}
 use Rattle.records.proofs.Places.{cut-whole, place-snoc, place-longer, ended-snoc, record-unique, no_record, rest-place, fault-place}
 use Rattle.records.proofs.Ruling.{Flag, test_of, first_stop, kind_flags, body_flags, passed_step, rule_step, pushed, walk_rules, rank, walk_rank, Told, stops, passes, told, kind-ranked, body-ranked}
+use Rattle.table.specs.declared.BytesFault.{BytesFault}
+use Rattle.table.specs.declared.BytesFault.TheVariants.{WrongKind, Missing, WrongVariables, WrongFactor, NotCanonical, WrongCount, After, TooMany}
+use Rattle.records.specs.Kinds.{RecordHead}
+use Rattle.records.specs.Walks.{Walk, Step}
+use Rattle.std.specs.Prelude.{Ok, Err}
+use Rattle.std.specs.declared.ops.ControlFlow.TheVariants.{Continue, Break}
 
 -- No number of a fault is above 27.
 number-few : (w : Walk) → fault_number w ≤ 27
-number-few (Laid count) = omega arith
-number-few (WrongKind place) = omega arith
-number-few (Missing place) = omega arith
-number-few (WrongVariables place) = omega arith
-number-few (WrongFactor place) = omega arith
-number-few (NotCanonical place) = omega arith
-number-few (WrongCount place) = omega arith
-number-few (After place) = omega arith
-number-few (TooMany place) = omega arith
+number-few (Ok count) = omega arith
+number-few (Err (WrongKind place)) = omega arith
+number-few (Err (Missing place)) = omega arith
+number-few (Err (WrongVariables place)) = omega arith
+number-few (Err (WrongFactor place)) = omega arith
+number-few (Err (NotCanonical place)) = omega arith
+number-few (Err (WrongCount place)) = omega arith
+number-few (Err (After place)) = omega arith
+number-few (Err (TooMany place)) = omega arith
 
 module _ (rules : Rules) where
   -- The walk from the place after some records on.
@@ -53,7 +53,7 @@ module _ (rules : Rules) where
   -- longest input does, without an end record.
   abbrev pub Begins : List Record → List Record → Type 0
   Begins before lead =
-      ((more : List ℕ) × Bytes more × (count : ℕ) × (walk_after before (records_bytes lead ++ more) ≡ Laid count)) ⊎ ((ended (before ++ lead) ≡ false) × (rules.is_longest (place_after (before ++ lead)) ≡ true))
+      ((more : List ℕ) × Bytes more × (count : ℕ) × (walk_after before (records_bytes lead ++ more) ≡ Ok count)) ⊎ ((ended (before ++ lead) ≡ false) × (rules.is_longest (place_after (before ++ lead)) ≡ true))
 
   -- Of all faults of the bytes that are left, this one comes first.
   pub record FirstAt (before : List Record) (left : List ℕ) (number place : ℕ) : Type 0 where
@@ -76,13 +76,13 @@ module _ (rules : Rules) where
     broken : (front more : List ℕ) → left ≡ front ++ more → ((y : List ℕ) → walk_after before (front ++ y) ≡ w)
         → fault_end (fault_number w) (fault_place w) ≡ place_after before + length front → fault_number w ≢ bytes_missing_fault → fault_number w ≢ 0
         → fault_place w < place_after before + length front → FirstAt before left (fault_number w) (fault_place w) → Found before left w
-    missing : w ≡ Missing (place_after before + length left) → FirstAt before left bytes_missing_fault (place_after before + length left) → Found before left w
-    laid : (count : ℕ) → w ≡ Laid count → NoFault before left → ((byte : ℕ) (more : List ℕ) → walk_after before (left ++ (byte ∷ more)) ≡ After (place_after before + length left))
+    missing : w ≡ Err (Missing (place_after before + length left)) → FirstAt before left bytes_missing_fault (place_after before + length left) → Found before left w
+    laid : (count : ℕ) → w ≡ Ok count → NoFault before left → ((byte : ℕ) (more : List ℕ) → walk_after before (left ++ (byte ∷ more)) ≡ Err (After (place_after before + length left)))
         → Found before left w
 
   -- The end record, where it may stand, with the number of the records that it counts.
   pub end-laid : (before : List Record) → ended before ≡ false → rules.is_longest (place_after before) ≡ false → rules.admits before End ≡ true → rules.is_surplus before End ≡ false
-      → walk_after before (encode_end (counted_in rules before)) ≡ Laid (counted_in rules before)
+      → walk_after before (encode_end (counted_in rules before)) ≡ Ok (counted_in rules before)
   unfolding walk_by first_stop
   end-laid before e l a s =
       rw (head_byte End (place_after before), e, l, a, s, eq-eqb _ (counted_in rules before) (word-of-bytes (counted_in rules before)))
@@ -135,7 +135,7 @@ module _ (rules : Rules) where
     unfolding walk_by
     walk-record k b e y =
         let l = body_length r.kind in
-        let step : rule_step rules before (kind_byte r.kind) place (r.body ++ y) ≡ Whole l = step-record y ∙ k _ ∙ b _ ∙ rw e in
+        let step : rule_step rules before (kind_byte r.kind) place (r.body ++ y) ≡ Continue l = step-record y ∙ k _ ∙ b _ ∙ rw e in
         let behind : pushed before (kind_byte r.kind) (r.body ++ y) ≡ before ++ (r ∷ []) =
         rw (head_byte r.kind 0, take_at r.body y l whole) in
         let long : l ≤ length (r.body ++ y) = omega (arith, length-append r.body y, whole) in
@@ -193,7 +193,7 @@ module _ (rules : Rules) where
         let same : here ≡ here + 0 = omega arith in
         let given : Applies (faults_after rules before []) bytes_missing_fault (here + 0) =
         record { found = test_at bytes_missing_fault here (not (ended before)); listed = inl refl; applies = rw awaits refl; numbered = refl; placed = same } in
-        missing (ap Missing same)
+        missing (ap (λ (p : ℕ). Err (Missing p)) same)
         (first-here before [] bytes_missing_fault (here + 0) (omega arith) begins given
         (λ t m a. elim m [ inl e ↦ rw e (omega arith) | inr e ↦ absurd e ])
         (λ r more w e. no_record r more e))
@@ -212,7 +212,7 @@ module _ (rules : Rules) where
       kind-facts f (inr (inr (inr e))) = absurd e
 
       found-kind : (rest : List ℕ) (f : Flag) → Mem f (kind_flags rules before here head) → f.applies ≡ true
-          → ((s : Step) → first_stop (kind_flags rules before here head) s ≡ Stop f.walk)
+          → ((s : Step) → first_stop (kind_flags rules before here head) s ≡ Break f.walk)
           → ((g : Flag) → Mem g (kind_flags rules before here head) → g.applies ≡ true → walk_rank f.walk ≤ walk_rank g.walk)
           → Found before (byte ∷ rest) (walk_after before (byte ∷ rest))
       unfolding walk_by
@@ -255,7 +255,7 @@ module _ (rules : Rules) where
           | inr (inr e) ↦ absurd e
         ] in
         rw (head_byte kind here, s _, cut)
-        (missing (ap Missing ends)
+        (missing (ap (λ (p : ℕ). Err (Missing p)) ends)
         (first-here before (byte ∷ rest) bytes_missing_fault (here + length (byte ∷ rest)) (omega arith) begins
         (subst (λ (l : List Test). Applies l bytes_missing_fault (here + length (byte ∷ rest))) (sym tests) given)
         (λ t m a. least t (subst (Mem t) tests m) a)
@@ -288,7 +288,7 @@ module _ (rules : Rules) where
           go Free e = absurd e
 
       -- A fault in its body.
-      found-body : (more : List ℕ) (f : Flag) → Mem f (at_body before r v) → f.applies ≡ true → ((s : Step) → first_stop (at_body before r v) s ≡ Stop f.walk)
+      found-body : (more : List ℕ) (f : Flag) → Mem f (at_body before r v) → f.applies ≡ true → ((s : Step) → first_stop (at_body before r v) s ≡ Break f.walk)
           → ((g : Flag) → Mem g (at_body before r v) → g.applies ≡ true → walk_rank f.walk ≤ walk_rank g.walk)
           → Found before (record_bytes r ++ more) (walk_after before (record_bytes r ++ more))
       unfolding walk_by
@@ -305,7 +305,7 @@ module _ (rules : Rules) where
             | inl i ↦ let g = map-mem test_of (at_kind before r v) t i in clash b (ap (λ (u : Test). u.applies) g.2 ∙ none g.0 g.1)
             | inr i ↦ let g = map-mem test_of (at_body before r v) t i in subst (λ (u : Test). walk_rank w ≤ rank u.number u.place) (sym g.2) (l g.0 g.1 (sym (ap (λ (u : Test). u.applies) g.2) ∙ b))
           ] in
-          let step : (y : List ℕ) → rule_step rules before (kind_byte r.kind) here (r.body ++ y) ≡ Stop w = λ y. step-record before r v y ∙ goes _ ∙ s _ in
+          let step : (y : List ℕ) → rule_step rules before (kind_byte r.kind) here (r.body ++ y) ≡ Break w = λ y. step-record before r v y ∙ goes _ ∙ s _ in
           let end : fault_end (fault_number w) (fault_place w) ≡ here + length (record_bytes r) = omega (arith, facts.1, v) in
           rw (step more)
           (broken (record_bytes r) more refl (λ y. rw (step y) refl) end facts.3 facts.4 (omega (arith, facts.0, facts.2, v))
@@ -328,7 +328,7 @@ module _ (rules : Rules) where
           ends : (y : List ℕ) → walk_after before (record_bytes r ++ y) ≡ after_end (counted_in rules before) (here + 1 + body_length r.kind) y
           unfolding walk_by
           ends y =
-              let step : rule_step rules before (kind_byte r.kind) here (r.body ++ y) ≡ Stop (after_end (counted_in rules before) (here + 1 + body_length r.kind) y) =
+              let step : rule_step rules before (kind_byte r.kind) here (r.body ++ y) ≡ Break (after_end (counted_in rules before) (here + 1 + body_length r.kind) y) =
               step-record before r v y ∙ goes _ ∙ on _ ∙ rw last in
               rw step
 
@@ -362,8 +362,8 @@ module _ (rules : Rules) where
               long : here + 1 + body_length r.kind ≡ here + length (record_bytes r ++ [])
               long = omega (arith, v, length-append r.body [])
 
-              later : (byte : ℕ) (more : List ℕ) → walk_after before ((record_bytes r ++ []) ++ (byte ∷ more)) ≡ After (here + length (record_bytes r ++ []))
-              later byte more = ap (λ (l : List ℕ). walk_after before (l ++ (byte ∷ more))) (append-nil (record_bytes r)) ∙ ends (byte ∷ more) ∙ ap After long
+              later : (byte : ℕ) (more : List ℕ) → walk_after before ((record_bytes r ++ []) ++ (byte ∷ more)) ≡ Err (After (here + length (record_bytes r ++ [])))
+              later byte more = ap (λ (l : List ℕ). walk_after before (l ++ (byte ∷ more))) (append-nil (record_bytes r)) ∙ ends (byte ∷ more) ∙ ap (λ (p : ℕ). Err (After p)) long
 
           -- A byte after it.
           module _ (b : ℕ) (bs : List ℕ) where
@@ -471,12 +471,12 @@ module _ (rules : Rules) where
     found-later more w (missing e first) =
         let long : place_after (before ++ (r ∷ [])) + length more ≡ place_after before + length (record_bytes r ++ more) =
         omega (arith, place-snoc before r, length-append r.body more) in
-        missing (e ∙ ap Missing long) (subst (FirstAt before (record_bytes r ++ more) bytes_missing_fault) long (first-after more bytes_missing_fault _ first))
+        missing (e ∙ ap (λ (p : ℕ). Err (Missing p)) long) (subst (FirstAt before (record_bytes r ++ more) bytes_missing_fault) long (first-after more bytes_missing_fault _ first))
     found-later more w (laid count e none after) =
         let long : place_after (before ++ (r ∷ [])) + length more ≡ place_after before + length (record_bytes r ++ more) =
         omega (arith, place-snoc before r, length-append r.body more) in
         laid count e (after-record more (λ t. ⊥) none)
-        (λ byte rest. ap (walk_after before) (append_assoc (record_bytes r) more (byte ∷ rest)) ∙ goes (more ++ (byte ∷ rest)) ∙ after byte rest ∙ ap After long)
+        (λ byte rest. ap (walk_after before) (append_assoc (record_bytes r) more (byte ∷ rest)) ∙ goes (more ++ (byte ∷ rest)) ∙ after byte rest ∙ ap (λ (p : ℕ). Err (After p)) long)
 
   -- ---- the whole walk
 
@@ -485,7 +485,7 @@ module _ (rules : Rules) where
       (keeps : (before : List Record) (r : Record) → Kept before → IsWhole r → rules.is_longest (place_after before) ≡ false → rules.admits before r.kind ≡ true
       → rules.is_surplus before r.kind ≡ false → is_end r.kind ≡ false → Kept (before ++ (r ∷ [])))
       (completes : (before : List Record) → Kept before → ended before ≡ false → rules.is_longest (place_after before) ≡ false
-      → (more : List ℕ) × Bytes more × (count : ℕ) × (walk_after before more ≡ Laid count)) where
+      → (more : List ℕ) × Bytes more × (count : ℕ) × (walk_after before more ≡ Ok count)) where
     begun : (before : List Record) → Kept before → ended before ≡ false → Begins before []
     unfolding records_bytes
     begun before k e = go (rules.is_longest (place_after before)) refl
@@ -507,7 +507,7 @@ module _ (rules : Rules) where
         admitted false q = clash refl q
 
     -- An unknown kind breaks a rule.
-    unknown-wrong : (before : List Record) (place : ℕ) (fault : Walk) → ((g : Flag) → Mem g (kind_flags rules before place (Refused fault)) → g.applies ≡ false) → ⊥
+    unknown-wrong : (before : List Record) (place : ℕ) (fault : BytesFault) → ((g : Flag) → Mem g (kind_flags rules before place (Err fault)) → g.applies ≡ false) → ⊥
     unknown-wrong before place fault none = go (is_closed rules before place) (none _ (inl refl)) (none _ (inr (inl refl)))
       where
         go : (t : Bool) → not t && true ≡ false → t ≡ false → ⊥

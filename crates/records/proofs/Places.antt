@@ -14,11 +14,11 @@ use Rattle.gf2.proofs.Finite.{append-mem}
 use Rattle.table.specs.Refusal.{Test, wrong_kind_fault, too_many_products_fault}
 use Rattle.records.specs.declared.Kind.{Kind}
 use Rattle.records.specs.declared.Kind.TheVariants.{Variables, Product, Factor, End, On, Free}
-use Rattle.records.specs.declared.RecordHead.{RecordHead}
-use Rattle.records.specs.declared.RecordHead.TheVariants.{Known, Refused}
 use Rattle.records.specs.Kinds.{kind_byte, body_length, known, head_of}
 use Rattle.records.proofs.KindBytes.{head_byte}
 use Rattle.records.specs.Faults.{Record, record_of, IsWhole, record_bytes, records_bytes, place_after, is_end, ended, record_count, Rules, kind_faults, body_faults, missing_faults, body_or_missing, faults_after}
+use Rattle.records.specs.Kinds.{RecordHead}
+use Rattle.std.specs.Prelude.{Ok, Err}
 
 -- ---- one record more
 
@@ -59,7 +59,11 @@ counted-snoc is_counted (b ∷ before) r = omega (arith, counted-snoc is_counted
 
 -- The byte of a kind says which it is.
 same_kind : (k l : Kind) → kind_byte k ≡ kind_byte l → k ≡ l
-same_kind k l e = let same : known k ≡ known l = sym (head_byte k 0) ∙ ap (λ (b : ℕ). head_of b 0) e ∙ head_byte l 0 in cc
+same_kind k l e = let same : known k ≡ known l = sym (head_byte k 0) ∙ ap (λ (b : ℕ). head_of b 0) e ∙ head_byte l 0 in ap kind_in same
+  where
+    kind_in : RecordHead → Kind
+    kind_in (Ok (kind, l)) = kind
+    kind_in (Err fault) = k
 
 -- Two lists with fronts of one length have the same front and the same rest.
 same-front : (a b c d : List ℕ) → length a ≡ length b → a ++ c ≡ b ++ d → (a ≡ b) × (c ≡ d)
@@ -116,8 +120,8 @@ module _ (rules : Rules) (before : List Record) where
   body-place place Free body t e = absurd e
 
   pub rest-place : (place : ℕ) (head : RecordHead) (rest : List ℕ) (t : Test) → Mem t (body_or_missing rules before place head rest) → NotBefore (place + 1) t
-  rest-place place (Refused fault) rest t m = absurd m
-  rest-place place (Known kind l) rest t m = go (leb l (length rest)) m
+  rest-place place (Err fault) rest t m = absurd m
+  rest-place place (Ok (kind, l)) rest t m = go (leb l (length rest)) m
     where
       go : (b : Bool) → Mem t (cond b (body_faults rules before (place + 1) kind (take l rest)) (missing_faults place rest)) → NotBefore (place + 1) t
       go true m = body-place (place + 1) kind (take l rest) t m

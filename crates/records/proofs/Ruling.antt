@@ -14,16 +14,15 @@ use Rattle.gf2.proofs.Logic.{clash}
 use Rattle.table.specs.Refusal.{Test, test_at}
 use Rattle.records.specs.declared.Kind.{Kind}
 use Rattle.records.specs.declared.Kind.TheVariants.{Variables, Product, Factor, End, On, Free}
-use Rattle.records.specs.declared.RecordHead.{RecordHead}
-use Rattle.records.specs.declared.RecordHead.TheVariants.{Known, Refused}
-use Rattle.records.specs.declared.Walk.{Walk}
-use Rattle.records.specs.declared.Walk.TheVariants.{WrongKind, Missing, WrongVariables, WrongFactor, NotCanonical, WrongCount, After, TooMany}
-use Rattle.records.specs.declared.Step.{Step}
-use Rattle.records.specs.declared.Step.TheVariants.{Whole, Stop}
 use Rattle.records.specs.Kinds.{kind_byte, body_length, known, head_of, word_of}
 use Rattle.records.specs.Walks.{body_step, after_end, end_step, fault_number, fault_place, walk_by, bytes_missing}
 use Rattle.records.specs.Faults.{Record, record_of, is_end, Rules, counted_in, is_closed, is_admitted, begins_surplus, wrong_count}
 use Rattle.records.proofs.KindBytes.{head_byte}
+use Rattle.table.specs.declared.BytesFault.TheVariants.{WrongKind, Missing, WrongVariables, WrongFactor, NotCanonical, WrongCount, After, TooMany}
+use Rattle.records.specs.Kinds.{RecordHead}
+use Rattle.records.specs.Walks.{Walk, Step}
+use Rattle.std.specs.Prelude.{Ok, Err}
+use Rattle.std.specs.declared.ops.ControlFlow.TheVariants.{Continue, Break}
 
 -- ---- the walk by the rules
 
@@ -42,40 +41,40 @@ test_of f = test_at (fault_number f.walk) (fault_place f.walk) f.applies
 -- The first rule that applies ends the walk.
 unfoldable pub first_stop : List Flag → Step → Step
 first_stop [] s = s
-first_stop (f ∷ fs) s = cond f.applies (Stop f.walk) (first_stop fs s)
+first_stop (f ∷ fs) s = cond f.applies (Break f.walk) (first_stop fs s)
 
 module _ (rules : Rules) (before : List Record) where
   abbrev pub kind_flags : ℕ → RecordHead → List Flag
   kind_flags place head =
-      flag (WrongKind place) (not (is_closed rules before place) && not (is_admitted rules before head)) ∷
-      flag (After place) (is_closed rules before place) ∷
-      flag (TooMany place) (not (is_closed rules before place) && begins_surplus rules before head) ∷
+      flag (Err (WrongKind place)) (not (is_closed rules before place) && not (is_admitted rules before head)) ∷
+      flag (Err (After place)) (is_closed rules before place) ∷
+      flag (Err (TooMany place)) (not (is_closed rules before place) && begins_surplus rules before head) ∷
       []
 
   abbrev pub body_flags : ℕ → Kind → List ℕ → List Flag
-  body_flags place Variables body = flag (WrongVariables place) (rules.wrong_variables body) ∷ []
+  body_flags place Variables body = flag (Err (WrongVariables place)) (rules.wrong_variables body) ∷ []
   body_flags place Product body = []
-  body_flags place Factor body = flag (WrongFactor place) (rules.wrong_factor before body) ∷ flag (NotCanonical place) (rules.disagrees before body) ∷ []
-  body_flags place End body = flag (WrongCount place) (wrong_count rules before body) ∷ []
+  body_flags place Factor body = flag (Err (WrongFactor place)) (rules.wrong_factor before body) ∷ flag (Err (NotCanonical place)) (rules.disagrees before body) ∷ []
+  body_flags place End body = flag (Err (WrongCount place)) (wrong_count rules before body) ∷ []
   body_flags place On body = []
   body_flags place Free body = []
 
   -- A whole record that breaks no rule is passed, but for the end record, which ends the walk.
   abbrev pub passed_step : ℕ → Kind → List ℕ → Step
-  passed_step place kind rest = cond (is_end kind) (Stop (after_end (counted_in rules before) (place + 1 + body_length kind) rest)) (Whole (body_length kind))
+  passed_step place kind rest = cond (is_end kind) (Break (after_end (counted_in rules before) (place + 1 + body_length kind) rest)) (Continue (body_length kind))
 
   abbrev pub head_rule : ℕ → RecordHead → List ℕ → Step
-  head_rule place (Known kind l) rest =
-      cond (leb l (length rest)) (first_stop (body_flags (place + 1) kind (take l rest)) (passed_step place kind (drop l rest))) (Stop (Missing (place + 1 + length rest)))
-  head_rule place (Refused fault) rest = Stop fault
+  head_rule place (Ok (kind, l)) rest =
+      cond (leb l (length rest)) (first_stop (body_flags (place + 1) kind (take l rest)) (passed_step place kind (drop l rest))) (Break (Err (Missing (place + 1 + length rest))))
+  head_rule place (Err fault) rest = Break (Err fault)
 
   abbrev pub rule_step : ℕ → ℕ → List ℕ → Step
   rule_step byte place rest = first_stop (kind_flags place (head_of byte place)) (head_rule place (head_of byte place) rest)
 
 -- The records behind once one is passed too.
 abbrev pub pushed_head : List Record → RecordHead → List ℕ → List Record
-pushed_head before (Known kind l) rest = before ++ (record_of kind (take l rest) ∷ [])
-pushed_head before (Refused fault) rest = before
+pushed_head before (Ok (kind, l)) rest = before ++ (record_of kind (take l rest) ∷ [])
+pushed_head before (Err fault) rest = before
 
 abbrev pub pushed : List Record → ℕ → List ℕ → List Record
 pushed before byte rest = pushed_head before (head_of byte 0) rest
@@ -103,7 +102,7 @@ Ranked (f ∷ fs) = ((g : Flag) → Mem g fs → walk_rank f.walk ≤ walk_rank 
 
 -- What the flags do to a step: one of them ends the walk, and none that applies has a lower rank; or none applies, and the step is as it was.
 pub data Told (fs : List Flag) : Type 0 where
-  stops : (f : Flag) → Mem f fs → f.applies ≡ true → ((s : Step) → first_stop fs s ≡ Stop f.walk)
+  stops : (f : Flag) → Mem f fs → f.applies ≡ true → ((s : Step) → first_stop fs s ≡ Break f.walk)
       → ((g : Flag) → Mem g fs → g.applies ≡ true → walk_rank f.walk ≤ walk_rank g.walk) → Told fs
   passes : ((g : Flag) → Mem g fs → g.applies ≡ false) → ((s : Step) → first_stop fs s ≡ s) → Told fs
 

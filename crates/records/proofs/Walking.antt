@@ -8,10 +8,9 @@ use native.Mathlib.Numerals.{add-one}
 use native.Mathlib.Omega.{arith}
 use lib.ListN.{length, drop, get_or, drop_of_length-le}
 use lib.Seq.{drop-cons, drop-drop}
-use Rattle.records.specs.declared.Walk.{Walk}
-use Rattle.records.specs.declared.Step.{Step}
-use Rattle.records.specs.declared.Step.TheVariants.{Whole, Stop}
 use Rattle.records.specs.Walks.{go_on, walk_by, bytes_missing}
+use Rattle.records.specs.Walks.{Walk, Step}
+use Rattle.std.specs.declared.ops.ControlFlow.TheVariants.{Continue, Break}
 
 module _ {S : Type 0} (step : S → ℕ → ℕ → List ℕ → Step) (next : S → ℕ → List ℕ → S) (ending : S → ℕ → Walk) where
   -- A body that is there is passed.
@@ -33,11 +32,11 @@ module _ {S : Type 0} (step : S → ℕ → ℕ → List ℕ → Step) (next : S
     opened : drop place bytes ≡ get_or bytes place 0 ∷ drop (place + 1) bytes
     opened = rw (add-one, drop-cons bytes place 0)
 
-    pub walk_ends : (w : Walk) → step s (get_or bytes place 0) place (drop (place + 1) bytes) ≡ Stop w → walk_by step next ending 0 s place (drop place bytes) ≡ w
+    pub walk_ends : (w : Walk) → step s (get_or bytes place 0) place (drop (place + 1) bytes) ≡ Break w → walk_by step next ending 0 s place (drop place bytes) ≡ w
     unfolding walk_by
     walk_ends w e = rw (opened, e)
 
-    pub walk-goes : (l : ℕ) → l ≤ length (drop (place + 1) bytes) → step s (get_or bytes place 0) place (drop (place + 1) bytes) ≡ Whole l
+    pub walk-goes : (l : ℕ) → l ≤ length (drop (place + 1) bytes) → step s (get_or bytes place 0) place (drop (place + 1) bytes) ≡ Continue l
         → walk_by step next ending 0 s place (drop place bytes) ≡ walk_by step next ending 0 (next s (get_or bytes place 0) (drop (place + 1) bytes)) (place + 1 + l) (drop (place + 1 + l) bytes)
     unfolding walk_by
     walk-goes l there e =
@@ -49,7 +48,7 @@ module _ {S : Type 0} (step : S → ℕ → ℕ → List ℕ → Step) (next : S
 module _ {S T : Type 0} (step : S → ℕ → ℕ → List ℕ → Step) (next : S → ℕ → List ℕ → S) (step₁ : T → ℕ → ℕ → List ℕ → Step) (next₁ : T → ℕ → List ℕ → T)
     (Alike : S → T → ℕ → Type 0)
     (same : (s : S) (t : T) (byte place : ℕ) (rest : List ℕ) → Alike s t place → step s byte place rest ≡ step₁ t byte place rest)
-    (again : (s : S) (t : T) (byte place : ℕ) (rest : List ℕ) (l : ℕ) → Alike s t place → step s byte place rest ≡ Whole l → Alike (next s byte rest) (next₁ t byte rest) (place + 1 + l)) where
+    (again : (s : S) (t : T) (byte place : ℕ) (rest : List ℕ) (l : ℕ) → Alike s t place → step s byte place rest ≡ Continue l → Alike (next s byte rest) (next₁ t byte rest) (place + 1 + l)) where
   pub walk-alike : (skip : ℕ) (s : S) (t : T) (place : ℕ) (rest : List ℕ) → Alike s t (place + skip) → walk_by step next bytes_missing skip s place rest ≡ walk_by step₁ next₁ bytes_missing skip t place rest
   unfolding walk_by
   walk-alike skip s t place [] a = refl
@@ -59,11 +58,11 @@ module _ {S T : Type 0} (step : S → ℕ → ℕ → List ℕ → Step) (next :
       rw (sym (same s t byte place rest alike)) (go (step s byte place rest) (λ l e. walk-alike l (next s byte rest) (next₁ t byte rest) (place + 1) rest (again s t byte place rest l alike e)) refl)
     where
       go : (found : Step)
-          → ((l : ℕ) → step s byte place rest ≡ Whole l → walk_by step next bytes_missing l (next s byte rest) (place + 1) rest ≡ walk_by step₁ next₁ bytes_missing l (next₁ t byte rest) (place + 1) rest)
+          → ((l : ℕ) → step s byte place rest ≡ Continue l → walk_by step next bytes_missing l (next s byte rest) (place + 1) rest ≡ walk_by step₁ next₁ bytes_missing l (next₁ t byte rest) (place + 1) rest)
           → step s byte place rest ≡ found
           → go_on found (λ l. walk_by step next bytes_missing l (next s byte rest) (place + 1) rest) ≡ go_on found (λ l. walk_by step₁ next₁ bytes_missing l (next₁ t byte rest) (place + 1) rest)
-      go (Stop w) later e = refl
-      go (Whole l) later e = later l e
+      go (Break w) later e = refl
+      go (Continue l) later e = later l e
   walk-alike (suc skip) s t place (byte ∷ rest) a =
       let on : place + suc skip ≡ place + 1 + skip = omega arith in
       walk-alike skip s t (place + 1) rest (subst (Alike s t) on a)

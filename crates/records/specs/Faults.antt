@@ -7,9 +7,9 @@ use Rattle.gf2.specs.Finite.{Mem}
 use Rattle.table.specs.Refusal.{Test, test_at, wrong_kind_fault, bytes_missing_fault, wrong_variables_fault, wrong_factor_fault, not_canonical_fault, wrong_count_fault, bytes_after_fault, too_many_products_fault}
 use Rattle.records.specs.declared.Kind.{Kind}
 use Rattle.records.specs.declared.Kind.TheVariants.{Variables, Product, Factor, End, On, Free}
-use Rattle.records.specs.declared.RecordHead.{RecordHead}
-use Rattle.records.specs.declared.RecordHead.TheVariants.{Known, Refused}
 use Rattle.records.specs.Kinds.{kind_byte, body_length, head_of, word_of}
+use Rattle.records.specs.Kinds.{RecordHead}
+use Rattle.std.specs.Prelude.{Ok, Err}
 
 -- ---- whole records, one after the other
 
@@ -99,13 +99,13 @@ is_closed rules before place = ended before || rules.is_longest place
 
 -- The byte stands for a kind that may stand after these records.
 abbrev pub is_admitted : Rules → List Record → RecordHead → Bool
-is_admitted rules before (Known kind l) = rules.admits before kind
-is_admitted rules before (Refused fault) = false
+is_admitted rules before (Ok (kind, l)) = rules.admits before kind
+is_admitted rules before (Err fault) = false
 
 -- It begins a product too many.
 abbrev pub begins_surplus : Rules → List Record → RecordHead → Bool
-begins_surplus rules before (Known kind l) = rules.is_surplus before kind
-begins_surplus rules before (Refused fault) = false
+begins_surplus rules before (Ok (kind, l)) = rules.is_surplus before kind
+begins_surplus rules before (Err fault) = false
 
 -- Faults at the byte of a kind: an unknown or misplaced kind where one is awaited, a byte where none is, a product too many.
 abbrev pub kind_faults : Rules → List Record → ℕ → RecordHead → List Test
@@ -135,9 +135,9 @@ missing_faults place rest = test_at bytes_missing_fault (place + 1 + length rest
 
 -- A body is judged only when all of it is there; a cut one is missing bytes.
 abbrev pub body_or_missing : Rules → List Record → ℕ → RecordHead → List ℕ → List Test
-body_or_missing rules before place (Known kind l) rest =
+body_or_missing rules before place (Ok (kind, l)) rest =
     cond (leb l (length rest)) (body_faults rules before (place + 1) kind (take l rest)) (missing_faults place rest)
-body_or_missing rules before place (Refused fault) rest = []
+body_or_missing rules before place (Err fault) rest = []
 
 -- All faults right after these records, by the bytes that are left: bytes are missing where none is left and the end record doesn't lie behind.
 abbrev pub faults_after : Rules → List Record → List ℕ → List Test

@@ -1,12 +1,11 @@
 -- The kinds of records, the length of the body that each fixes, and numbers of two bytes (document 01, "The written form").
 -- Read next: Walks.
-use Rattle.std.specs.Prelude.{cond, List, [], ◌∷◌, ℕ, ◌+◌, ◌*◌, ◌/◌, ◌%◌, ◌<◌, eqb}
+use Rattle.std.specs.Prelude.{cond, Result, Ok, Err, List, [], ◌∷◌, ℕ, ◌+◌, ◌*◌, ◌/◌, ◌%◌, ◌<◌, eqb}
 use Rattle.gf2.specs.Finite.{Mem}
 use Rattle.records.specs.declared.Kind.{Kind}
 use Rattle.records.specs.declared.Kind.TheVariants.{Variables, Product, Factor, End, On, Free}
-use Rattle.records.specs.declared.Walk.TheVariants.{WrongKind}
-use Rattle.records.specs.declared.RecordHead.{RecordHead}
-use Rattle.records.specs.declared.RecordHead.TheVariants.{Known, Refused}
+use Rattle.table.specs.declared.BytesFault.{BytesFault}
+use Rattle.table.specs.declared.BytesFault.TheVariants.{WrongKind}
 
 -- The kind bytes: n, a product begins, a factor, the end with its number, an on point, a free point (document 01, "The written form").
 abbrev pub variables_kind : ℕ
@@ -45,9 +44,13 @@ body_length End = 2
 body_length On = 2
 body_length Free = 2
 
+-- What the kind byte of a record decides: its kind with the length of its body, or the fault of an unknown kind.
+abbrev pub RecordHead : Type 0
+RecordHead = Result (Kind × ℕ) BytesFault
+
 -- A known kind with the length of its body.
 abbrev pub known : Kind → RecordHead
-known kind = Known kind (body_length kind)
+known kind = Ok (kind, body_length kind)
 
 -- The decision over the kind byte, which stands at the place: it gives the kind with the length of its body, or the refusal of an unknown
 -- kind (document 01, "Forms and where they belong"). What a table or a form makes of a known kind is decided after it.
@@ -59,7 +62,7 @@ head_of byte place =
     (cond (eqb byte end_kind) (known End)
     (cond (eqb byte on_kind) (known On)
     (cond (eqb byte free_kind) (known Free)
-    (Refused (WrongKind place)))))))
+    (Err (WrongKind place)))))))
 
 -- The number that two bytes stand for: wider numbers are low byte first (document 01, "The written form").
 abbrev pub word_of : ℕ → ℕ → ℕ

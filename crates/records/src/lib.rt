@@ -6,12 +6,10 @@ ghost use Rattle.std.specs.Prelude.{◌≡◌, [], ◌∷◌, ◌+◌, ◌≤◌
 ghost use Rattle.std.proofs.lemmas.List.Edits.{sets};
 ghost use Rattle.records.specs.Kinds.{body_length, head_of, word_of, low_byte, high_byte, encode_record, word_record_length, encode_end};
 ghost use Rattle.records.specs.declared.Kind.TheVariants.{End};
-ghost use Rattle.records.specs.Walks.{body_step, end_step, fault_found};
+ghost use Rattle.records.specs.Walks.{body_step, end_step};
 
-use table::{
-    BYTES_AFTER_FAULT, BYTES_MISSING_FAULT, Fault, NOT_CANONICAL_FAULT, TOO_MANY_PRODUCTS_FAULT,
-    WRONG_COUNT_FAULT, WRONG_FACTOR_FAULT, WRONG_KIND_FAULT, WRONG_VARIABLES_FAULT,
-};
+use std::ops::ControlFlow;
+use table::BytesFault;
 
 // The kind bytes, as the constants of the same names in specs/.
 pub const VARIABLES_KIND: u8 = 0x4E;
@@ -30,7 +28,7 @@ pub const FREE_KIND: u8 = 0x44;
 pub const WORD_RECORD_LENGTH: usize = 3;
 
 // What a record is.
-#[derive(Clone, Copy)]
+#[derive(Clone, Copy, Debug, PartialEq, Eq)]
 pub enum Kind {
     Variables,
     Product,
@@ -42,38 +40,24 @@ pub enum Kind {
 
 // What a walk over the bytes of a table or a form finds: what is asked for, with its number of points or products, or the first fault from
 // the left with its place (document 02, No. 3).
-#[derive(Clone, Copy)]
-pub enum Walk {
-    Laid(usize),
-    WrongKind(usize),
-    Missing(usize),
-    WrongVariables(usize),
-    WrongFactor(usize),
-    NotCanonical(usize),
-    WrongCount(usize),
-    After(usize),
-    TooMany(usize),
-}
+pub type Walk = Result<usize, BytesFault>;
 
-// What the kind byte of a record decides: its kind with the length of its body, or the refusal of an unknown kind.
-#[derive(Clone, Copy)]
-pub enum RecordHead {
-    Known(Kind, usize),
-    Refused(Walk),
-}
+// What a walk finds at one record: a whole one, with the length of its body, after which it goes on; or what the walk ends with.
+pub type Step = ControlFlow<Walk, usize>;
 
 // The decision over the kind byte, which stands at the place. No other function refuses an unknown kind.
-pub fn head_of(byte: u8, place: usize) -> RecordHead
+#[tactic(auto, unfolding(crate::specs::Kinds::head_of))]
+pub fn head_of(byte: u8, place: usize) -> Result<(Kind, usize), BytesFault>
     ensures { result ≡ head_of byte place }
 {
     match byte {
-        VARIABLES_KIND => RecordHead::Known(Kind::Variables, 1),
-        PRODUCT_KIND => RecordHead::Known(Kind::Product, 0),
-        FACTOR_KIND => RecordHead::Known(Kind::Factor, 3),
-        END_KIND => RecordHead::Known(Kind::End, 2),
-        ON_KIND => RecordHead::Known(Kind::On, 2),
-        FREE_KIND => RecordHead::Known(Kind::Free, 2),
-        _ => RecordHead::Refused(Walk::WrongKind(place)),
+        VARIABLES_KIND => Ok((Kind::Variables, 1)),
+        PRODUCT_KIND => Ok((Kind::Product, 0)),
+        FACTOR_KIND => Ok((Kind::Factor, 3)),
+        END_KIND => Ok((Kind::End, 2)),
+        ON_KIND => Ok((Kind::On, 2)),
+        FREE_KIND => Ok((Kind::Free, 2)),
+        _ => Err(BytesFault::WrongKind(place)),
     }
 }
 
@@ -81,7 +65,7 @@ pub fn head_of(byte: u8, place: usize) -> RecordHead
 pub fn word(low: u8, high: u8) -> u16
     ensures { result ≡ word_of low high }
 {
-    (low as u16) + 256 * (high as u16)
+    u16::from_le_bytes([low, high])
 }
 
 // A number of two bytes at a place, low byte first.
@@ -89,11 +73,10 @@ pub fn put_word(room: &mut [u8], at: usize, word: u16)
     requires { at + 2 ≤ length room.old }
     ensures { room.new ≡ sets room.old at (low_byte word ∷ high_byte word ∷ []) }
 {
-    room[at] = (word % 256) as u8;
-    room[at + 1] = (word / 256) as u8;
+    room[at..at + 2].copy_from_slice(&word.to_le_bytes());
 }
 
-// A record of a kind and a number of two bytes at a place.
+// A record of a kind and a number of two bytes at a place. The kind is a byte, any byte, so that a caller needs no `Kind` for it.
 pub fn put_record(room: &mut [u8], at: usize, kind: u8, word: u16)
     requires { at + word_record_length ≤ length room.old }
     ensures { room.new ≡ sets room.old at (encode_record kind word) }
@@ -110,22 +93,15 @@ pub fn put_end(room: &mut [u8], at: usize, count: u16)
     put_record(&mut *room, at, END_KIND, count);
 }
 
-// What a walk finds at one record: a whole one, with the length of its body, or how the walk ends.
-#[derive(Clone, Copy)]
-pub enum Step {
-    Whole(usize),
-    Stop(Walk),
-}
-
 // The body of the record at the place, of the given length.
 pub fn body_step(bytes: &[u8], place: usize, body: usize) -> Step
     requires { place < length bytes.now }
     ensures { result ≡ body_step body place (drop (place + 1) bytes.now) }
 {
     if body < bytes.len() - place {
-        Step::Whole(body)
+        ControlFlow::Continue(body)
     } else {
-        Step::Stop(Walk::Missing(bytes.len()))
+        ControlFlow::Break(Err(BytesFault::Missing(bytes.len())))
     }
 }
 
@@ -140,33 +116,13 @@ pub fn end_step(bytes: &[u8], count: usize, place: usize, body: usize) -> Step
         place
         (drop (place + 1) bytes.now) }
 {
-    let found = body_step(bytes, place, body);
-    let Step::Whole(length) = found else {
-        return found;
-    };
+    let length = body_step(bytes, place, body)?;
     let next = place + 1 + length;
     if word(bytes[place + 1], bytes[place + 2]) as usize != count {
-        Step::Stop(Walk::WrongCount(place + 1))
+        ControlFlow::Break(Err(BytesFault::WrongCount(place + 1)))
     } else if next < bytes.len() {
-        Step::Stop(Walk::After(next))
+        ControlFlow::Break(Err(BytesFault::After(next)))
     } else {
-        Step::Stop(Walk::Laid(count))
-    }
-}
-
-// What is wrong by what a walk found: the refusal number with its place, or 0 for both.
-pub fn layout_fault(found: Walk) -> Fault
-    ensures { result ≡ fault_found found }
-{
-    match found {
-        Walk::Laid(_) => table::fault_at(0, 0),
-        Walk::WrongKind(place) => table::fault_at(WRONG_KIND_FAULT, place),
-        Walk::Missing(place) => table::fault_at(BYTES_MISSING_FAULT, place),
-        Walk::WrongVariables(place) => table::fault_at(WRONG_VARIABLES_FAULT, place),
-        Walk::WrongFactor(place) => table::fault_at(WRONG_FACTOR_FAULT, place),
-        Walk::NotCanonical(place) => table::fault_at(NOT_CANONICAL_FAULT, place),
-        Walk::WrongCount(place) => table::fault_at(WRONG_COUNT_FAULT, place),
-        Walk::After(place) => table::fault_at(BYTES_AFTER_FAULT, place),
-        Walk::TooMany(place) => table::fault_at(TOO_MANY_PRODUCTS_FAULT, place),
+        ControlFlow::Break(Ok(count))
     }
 }

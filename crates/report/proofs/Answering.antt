@@ -4,7 +4,7 @@ use mathlib.Core.Path.{◌≡◌, refl, sym, ap, ◌∙◌}
 use mathlib.Core.Bool.{Bool, true, false, cond}
 use mathlib.Core.Logic.{◌≢◌}
 use mathlib.Core.List.{List, [], ◌∷◌}
-use Prim.Native.Nat.{ℕ, ◌+◌, ◌-◌, ◌^◌, ◌≤◌, ◌<◌}
+use Prim.Native.Nat.{ℕ, ◌+◌, ◌^◌, ◌≤◌, ◌<◌}
 use native.Mathlib.Decide.{ℕ_discrete, dec_lt}
 use native.Mathlib.Omega.{arith}
 use lib.Dec.{ltb}
@@ -14,14 +14,13 @@ use lib.Seq.{take_at, take_all, length-take-le}
 use borrow.Author.Tests.{le-ltb}
 use Rattle.gf2.proofs.Finite.{rising-length}
 use Rattle.table.specs.Refusal.{Test, first_fault, room_fault}
-use Rattle.table.specs.declared.Fault.{Fault}
+use Rattle.table.specs.Refusal.{Fault}
 use Rattle.table.specs.Decision.{front}
 use Rattle.table.specs.Table.{Accepted}
 use Rattle.table.specs.Flags.{max_points}
 use Rattle.table.proofs.Fill.{fill-length}
 use Rattle.table.proofs.Decide.{decide-accepted, decide-refused, call-short, call-accepted}
 use Rattle.stored.specs.declared.TableRead.{TableRead}
-use Rattle.records.specs.declared.Walk.{Walk}
 use Rattle.records.specs.Walks.{fault_number, fault_place}
 use Rattle.records.proofs.Numbers.{some_number}
 use Rattle.stored.specs.Layout.{walked, longest_table}
@@ -40,6 +39,7 @@ use Rattle.table_report.specs.Text.{table_text}
 use Rattle.table_report.proofs.Fitting.{table_fits}
 use Rattle.report.specs.Report.{report_text}
 use Rattle.report.specs.Answer.{text_room, report_accepted, report_refused, report_answer, report_after}
+use Rattle.records.specs.Walks.{Walk}
 
 -- ---- the stored table
 
@@ -162,23 +162,23 @@ module _ (bytes on free : List ℕ) (on_room : length on ≡ max_points) (free_r
       free-front : read_free_after bytes on free ≡ front (stored_free bytes) free
       free-front = accepted-free bytes on free (read_same ∙ read-fault)
 
-      pub on_read : (after : List ℕ) → after ≡ read_on_after bytes on free → take (r.on_count - 0) after ≡ stored_on bytes
+      pub on_read : (after : List ℕ) → after ≡ read_on_after bytes on free → take r.on_count after ≡ stored_on bytes
       on_read after q =
-          let n : length (stored_on bytes) ≡ r.on_count - 0 = omega (arith, ap (λ (x : TableRead). x.on_count) read-value) in
-          rw (q, on-front) (take_at (stored_on bytes) (drop (length (stored_on bytes)) on) (r.on_count - 0) n)
+          let n : length (stored_on bytes) ≡ r.on_count = omega (arith, ap (λ (x : TableRead). x.on_count) read-value) in
+          rw (q, on-front) (take_at (stored_on bytes) (drop (length (stored_on bytes)) on) r.on_count n)
 
-      pub free-read : (after : List ℕ) → after ≡ read_free_after bytes on free → take (r.free_count - 0) after ≡ stored_free bytes
+      pub free-read : (after : List ℕ) → after ≡ read_free_after bytes on free → take r.free_count after ≡ stored_free bytes
       free-read after q =
-          let n : length (stored_free bytes) ≡ r.free_count - 0 = omega (arith, ap (λ (x : TableRead). x.free_count) read-value) in
-          rw (q, free-front) (take_at (stored_free bytes) (drop (length (stored_free bytes)) free) (r.free_count - 0) n)
+          let n : length (stored_free bytes) ≡ r.free_count = omega (arith, ap (λ (x : TableRead). x.free_count) read-value) in
+          rw (q, free-front) (take_at (stored_free bytes) (drop (length (stored_free bytes)) free) r.free_count n)
 
       module _ (after_on after_free : List ℕ) (p : after_on ≡ read_on_after bytes on free) (q : after_free ≡ read_free_after bytes on free) where
-        pub read_table : Accepted r.variables (take (r.on_count - 0) after_on) (take (r.free_count - 0) after_free)
+        pub read_table : Accepted r.variables (take r.on_count after_on) (take r.free_count after_free)
         read_table =
             let v : r.variables ≡ stored_variables bytes = ap (λ (x : TableRead). x.variables) read-value in
             rw (v, on_read after_on p, free-read after_free q) (stored-accepted bytes read-fault)
 
-        pub read-text : table_text r.variables (take (r.on_count - 0) after_on) (take (r.free_count - 0) after_free) ≡ report_text bytes
+        pub read-text : table_text r.variables (take r.on_count after_on) (take r.free_count after_free) ≡ report_text bytes
         read-text =
             let v : r.variables ≡ stored_variables bytes = ap (λ (x : TableRead). x.variables) read-value in
             rw (v, on_read after_on p, free-read after_free q) read-accepted

@@ -1,6 +1,8 @@
 -- The call that gives the report: its one refusal, its answer and its lent room (document 01, "Refusal numbers"). Read next: crate `glospruma`.
 use Rattle.std.specs.Prelude.{List, ℕ, length}
+use Rattle.table.specs.declared.Refusal.{Refusal}
 use Rattle.table.specs.Refusal.{Test}
+use Rattle.table.specs.Answers.{number_of}
 use Rattle.table.specs.Decision.{Decision, answer_of, after_of, room_test}
 use Rattle.report.specs.declared.ReportWritten.{ReportWritten}
 use Rattle.report.specs.Report.{report_text}
@@ -20,6 +22,9 @@ report_accepted bytes = record { refusal = 0; length = length (report_text bytes
 -- A refusal returns its number with all other numbers 0.
 abbrev pub report_refused : ℕ → ReportWritten
 report_refused number = record { refusal = number; length = 0 }
+
+abbrev pub refused_report : Refusal → ReportWritten
+refused_report refusal = report_refused (number_of refusal)
 
 -- The call, and the numbers that it returns.
 abbrev pub report_call : List ℕ → List ℕ → Decision ReportWritten

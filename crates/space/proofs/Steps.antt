@@ -85,16 +85,11 @@ pub directions-take : (p : ℕ) (ps : List ℕ) (j : ℕ) → j < length ps
     → inserts [] (map (λ q. q ⊕ p) (take (suc j) ps)) ≡ insert (inserts [] (map (λ q. q ⊕ p) (take j ps))) (get_or ps j 0 ⊕ p)
 directions-take p ps j h = ap (inserts []) (map-take (λ q. q ⊕ p) ps j 0 h) ∙ inserts-snoc [] (map (λ q. q ⊕ p) (take j ps)) (get_or ps j 0 ⊕ p)
 
--- From the first point itself, which adds nothing, so that a loop may start at the second.
+-- From the first point itself, which adds nothing.
 pub directions-all : (ps : List ℕ) → 0 < length ps → inserts [] (map (λ q. q ⊕ get_or ps 0 0) ps) ≡ directions ps
 unfolding directions inserts
 directions-all [] h = absurd (omega arith)
 directions-all (p ∷ ps) h = ap (λ l. inserts l (map (λ q. q ⊕ p) ps)) (insert-known [] (p ⊕ p) tt (xor_self p))
-
-pub directions-first : (ps : List ℕ) → 0 < length ps → inserts [] (map (λ q. q ⊕ get_or ps 0 0) (take 1 ps)) ≡ []
-unfolding inserts
-directions-first [] h = absurd (omega arith)
-directions-first (p ∷ ps) h = insert-known [] (p ⊕ p) tt (xor_self p)
 
 pub least_point-is : (ps : List ℕ) → 0 < length ps → least_point ps ≡ reduce (directions ps) (get_or ps 0 0)
 unfolding least_point

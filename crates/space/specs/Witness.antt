@@ -1,10 +1,8 @@
 -- The search for a point that breaks closure (document 01, "Points and spaces": "stops at the first one found, in rising order of vector and
 -- then point") and flags, one to a point, as a complete function. Read next: Completion.
-use Rattle.std.specs.Prelude.{◌≡◌, Bool, false, List, ℕ, ◌^◌, ◌<◌, get_or}
+use Rattle.std.specs.Prelude.{◌≡◌, Bool, false, List, Option, Some, None, ℕ, ◌^◌, ◌<◌, get_or}
 use Rattle.gf2.specs.Bits.{◌⊕◌}
 use Rattle.gf2.specs.Finite.{Mem, Rising}
-use Rattle.space.specs.declared.Witness.{Witness}
-use Rattle.space.specs.declared.Witness.TheVariants.{At, None}
 
 -- The complete function that flags stand for: on at the points whose flag is set.
 abbrev pub flagged : List Bool → ℕ → Bool
@@ -23,8 +21,8 @@ pub record FirstWitness (f : ℕ → Bool) (m : ℕ) (vs : List ℕ) (a p : ℕ)
   pub points : (q : ℕ) → q < p → Agrees f a q
 
 -- What the search answers: the first vector and point that break closure, or that there are none.
-abbrev pub Answers : (ℕ → Bool) → ℕ → List ℕ → Witness → Type 0
-Answers f m vs (At a p) = FirstWitness f m vs a p
+abbrev pub Answers : (ℕ → Bool) → ℕ → List ℕ → Option (ℕ × ℕ) → Type 0
+Answers f m vs (Some (a, p)) = FirstWitness f m vs a p
 Answers f m vs None = (u : ℕ) → Mem u vs → (q : ℕ) → q < m → Agrees f u q
 
 -- Vectors that can be searched: they rise and have n variables.

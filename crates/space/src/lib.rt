@@ -16,34 +16,23 @@ ghost use Rattle.space.specs.Completion.{simply_completed, CompletedTo, IsComple
 use basis::Basis;
 use table::MAX_POINTS;
 
-// What a search for a break of closure finds: a vector and a point, or none.
-#[derive(Clone, Copy)]
-pub enum Witness {
-    At(u16, u16),
-    None,
-}
-
-// The first break of closure, in rising order of vector and then point, over the given vectors and all points.
-pub fn first_witness(flags: &[bool; MAX_POINTS], n: usize, vectors: &[u16]) -> Witness
+// The first break of closure, in rising order of vector and then point, over the given vectors and all points: that vector and that point.
+// The labelled break that leaves both loops is one of the forms that the library is to use (docs/DECISIONS.md).
+pub fn first_witness(flags: &[bool; MAX_POINTS], n: usize, vectors: &[u16]) -> Option<(u16, u16)>
     requires n_le_max_variables { n ≤ max_variables }
     requires searchable { Searchable n vectors.now }
     ensures { Answers (flagged flags.now) (2 ^ n) vectors.now result }
 {
-    let count = table::flag_place(table::point_count(n));
-    let mut found = Witness::None;
-    let mut i = 0;
-    'search: while i < vectors.len() {
-        let a = vectors[i];
-        let vector = table::flag_place(a);
-        let mut p = 0;
-        while p < count {
+    let count = usize::from(table::point_count(n));
+    let mut found = None;
+    'search: for &a in vectors {
+        let vector = usize::from(a);
+        for p in 0..count {
             if flags[p ^ vector] != flags[p] {
-                found = Witness::At(a, p as u16);
+                found = Some((a, p as u16));
                 break 'search;
             }
-            p += 1;
         }
-        i += 1;
     }
     found
 }
@@ -52,13 +41,12 @@ pub fn first_witness(flags: &[bool; MAX_POINTS], n: usize, vectors: &[u16]) -> W
 fn grown(basis: Basis, flags: &[bool; MAX_POINTS], n: usize, v: u16) -> Basis
     requires n_le_max_variables { n ≤ max_variables }
     requires v_bound { v < 2 ^ n }
-    requires basis_value { basis ≡ basis_of (inserts [] (select (closed n (flagged flags.now)) v)) }
+    requires closed_below { basis ≡ basis_of (inserts [] (select (closed n (flagged flags.now)) v)) }
     ensures { result ≡ basis_of (inserts [] (select (closed n (flagged flags.now)) (v + 1))) }
 {
-    let alone = [v];
-    let Witness::None = first_witness(flags, n, &alone) else {
+    if first_witness(flags, n, &[v]).is_some() {
         return basis;
-    };
+    }
     basis.insert(v)
 }
 
@@ -70,20 +58,17 @@ pub fn linear_space(flags: &[bool; MAX_POINTS], n: usize) -> Basis
     ensures { Built result (linear_space n (flagged flags.now)) (In n (closed n (flagged flags.now))) }
 {
     let full = Basis::full(n);
-    let units = full.vectors;
-    let Witness::At(a, _) = first_witness(flags, n, &units[..n]) else {
+    let Some((a, _)) = first_witness(flags, n, full.as_slice()) else {
         return full;
     };
     let count = table::point_count(n);
     let mut basis = Basis::full(gf2::lead(a) as usize);
     let mut leads = basis.leads();
-    let mut v = a + 1;
-    while v < count {
+    for v in a + 1..count {
         if leads & v == 0 {
             basis = grown(basis, flags, n, v);
             leads = basis.leads();
         }
-        v += 1;
     }
     basis
 }

@@ -3,7 +3,9 @@
 use Rattle.std.specs.Prelude.{List, [], ℕ, length}
 use Rattle.basis.specs.declared.Basis.{Basis}
 use Rattle.basis.specs.Reduced.{basis_of}
+use Rattle.table.specs.declared.Refusal.{Refusal}
 use Rattle.table.specs.Refusal.{Test}
+use Rattle.table.specs.Answers.{number_of}
 use Rattle.table.specs.Table.{table_tests}
 use Rattle.table.specs.Decision.{Decision, answer_of}
 use Rattle.space_answer.specs.declared.LinearSpace.{LinearSpace}
@@ -18,6 +20,10 @@ space_accepted bs = record { refusal = 0; degree = length bs; basis = basis_of b
 
 abbrev pub space_refused : ℕ → LinearSpace
 space_refused number = record { refusal = number; degree = 0; basis = basis_of [] }
+
+-- What the calls give for a refusal.
+abbrev pub refused_space : Refusal → LinearSpace
+refused_space refusal = space_refused (number_of refusal)
 
 -- The call on n and the on points of a complete function, which finds the vectors bs.
 abbrev pub space_call : ℕ → List ℕ → List ℕ → Decision LinearSpace

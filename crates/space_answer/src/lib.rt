@@ -3,9 +3,10 @@
 #![tactic(auto)]
 
 ghost use Rattle.std.specs.Prelude.{◌≡◌};
-ghost use Rattle.space_answer.specs.Answer.{space_refused, space_of};
+ghost use Rattle.space_answer.specs.Answer.{space_refused, refused_space, space_of};
 
 use basis::Basis;
+use table::{Answer, Refusal};
 
 // The linear space of a complete function: its degree and its reduced basis.
 #[repr(C)]
@@ -16,7 +17,7 @@ pub struct LinearSpace {
     pub basis: Basis,
 }
 
-// A refusal: all other numbers are 0.
+// A refusal by its number: all other numbers are 0. It takes every number, where a `Refusal` would ask more of its callers.
 pub fn refused_space(refusal: u8) -> LinearSpace
     ensures { result ≡ space_refused refusal }
 {
@@ -27,13 +28,23 @@ pub fn refused_space(refusal: u8) -> LinearSpace
     }
 }
 
+impl Answer for LinearSpace {
+    ghost refused_with = { refused_space };
+
+    fn refused(refusal: Refusal) -> LinearSpace {
+        refused_space(refusal.number())
+    }
+}
+
 // The space of a basis.
-pub fn space_of(basis: Basis) -> LinearSpace
-    ensures { result ≡ space_of basis }
-{
-    LinearSpace {
-        refusal: 0,
-        degree: basis.len,
-        basis,
+impl From<Basis> for LinearSpace {
+    ghost from_gives = { λ basis space. space ≡ space_of basis };
+
+    fn from(basis: Basis) -> LinearSpace {
+        LinearSpace {
+            refusal: 0,
+            degree: basis.len,
+            basis,
+        }
     }
 }

@@ -9,10 +9,10 @@ use native.Mathlib.Decide.{ℕ_discrete}
 use native.Mathlib.Omega.{arith}
 use Rattle.gf2.specs.Finite.{Mem, holds}
 use Rattle.gf2.proofs.Finite.{map-mem, mem-map}
-use Rattle.table.specs.declared.Fault.{Fault}
+use Rattle.table.specs.Refusal.{Fault}
 use Rattle.table.specs.Refusal.{Test, test, variables_fault, point_fault, order_fault, first_fault, first_place, fault_at, fault_of, Numbered, NoneApplies}
 use Rattle.table.specs.Table.{bad_count, outside, unordered, Accepted}
-use Rattle.table.proofs.Refusal.{no-fault, numbered, fault-append, fault-before, place_none, place-append, place-before}
+use Rattle.table.proofs.FirstFault.{no-fault, numbered, fault-append, fault-before, place_none, place-append, place-before}
 use Rattle.table.proofs.Table.{good-count, inside, rising}
 use Rattle.records.specs.Walks.{fault_number, fault_place, fault_found, is_fault, layout_tests}
 use Rattle.records.proofs.Numbers.{some_number, layout-found}
@@ -47,15 +47,19 @@ stored-layout bytes nz =
     let place = place-before (layout_tests table_faults (walked bytes)) (point_tests bytes) found ∙ told.1 in
     cc (number, place)
 
--- Without one the bytes are laid out, and the tests of n and the points decide, whose place is 0.
+-- Without one the bytes are laid out, and the tests of n and the points decide.
+pub stored-later : (bytes : List ℕ) → fault_number (walked bytes) ≡ 0 → fault_of (stored_tests bytes) ≡ fault_of (point_tests bytes)
+stored-later bytes e =
+    let passed = (layout-told bytes).0 ∙ e in
+    let number = fault-append (layout_tests table_faults (walked bytes)) (point_tests bytes) (layout-numbered bytes) passed in
+    let place = place-append (layout_tests table_faults (walked bytes)) (point_tests bytes) (layout-numbered bytes) passed in
+    cc (number, place)
+
+-- The place of those is 0.
 pub stored-points : (bytes : List ℕ) → fault_number (walked bytes) ≡ 0 → fault_of (stored_tests bytes) ≡ fault_at (first_fault (point_tests bytes)) 0
 unfolding first_place
 stored-points bytes e =
-    let passed = (layout-told bytes).0 ∙ e in
-    let number = fault-append (layout_tests table_faults (walked bytes)) (point_tests bytes) (layout-numbered bytes) passed in
-    let place = place-append (layout_tests table_faults (walked bytes)) (point_tests bytes) (layout-numbered bytes) passed
-    ∙ zeros (bad_count (stored_variables bytes)) (outside (stored_variables bytes) (stored_points bytes)) (unordered (stored_points bytes)) in
-    cc (number, place)
+    stored-later bytes e ∙ ap (λ (p : ℕ). fault_at (first_fault (point_tests bytes)) p) (zeros (bad_count (stored_variables bytes)) (outside (stored_variables bytes) (stored_points bytes)) (unordered (stored_points bytes)))
   where
     zeros : (a b c : Bool) → first_place (test variables_fault a ∷ test point_fault b ∷ test order_fault c ∷ []) ≡ 0
     zeros true b c = refl

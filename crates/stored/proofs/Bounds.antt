@@ -13,10 +13,6 @@ use borrow.Author.Tests.{eqb-false, eqb-true, leb-true, leb-false}
 use Rattle.table.specs.Flags.{max_points}
 use Rattle.records.specs.declared.Kind.{Kind}
 use Rattle.records.specs.declared.Kind.TheVariants.{Variables, Product, Factor, End, On, Free}
-use Rattle.records.specs.declared.Walk.{Walk}
-use Rattle.records.specs.declared.Walk.TheVariants.{WrongKind, Missing, WrongCount, After}
-use Rattle.records.specs.declared.Step.{Step}
-use Rattle.records.specs.declared.Step.TheVariants.{Whole, Stop}
 use Rattle.records.specs.Kinds.{body_length, head_of, word_of}
 use Rattle.records.specs.Walks.{head_step, body_step, after_end, end_step, go_on, walk_by, bytes_missing, fault_number, fault_place}
 use Rattle.records.specs.Faults.{records_bytes, fault_end}
@@ -28,6 +24,10 @@ use Rattle.stored.specs.Faults.{table_rules}
 use Rattle.stored.proofs.Walking.{record-whole}
 use Rattle.stored.proofs.Ruling.{table-ruled, table-first}
 use Rattle.stored.proofs.Laying.{laid as Laid-by, laid-length, laid-few}
+use Rattle.table.specs.declared.BytesFault.TheVariants.{WrongKind, Missing, WrongCount, After}
+use Rattle.records.specs.Walks.{Walk, Step}
+use Rattle.std.specs.Prelude.{Err}
+use Rattle.std.specs.declared.ops.ControlFlow.TheVariants.{Continue, Break}
 
 -- What is found stands at the end of the longest table at the latest, and the bytes up to one more decide it.
 pub record Inside (w : Walk) : Type 0 where
@@ -36,25 +36,25 @@ pub record Inside (w : Walk) : Type 0 where
 
 -- What a step finds is so; and a record of points, which is passed, ends no later.
 abbrev InsideStep : ℕ → Step → Type 0
-InsideStep place (Stop w) = Inside w
-InsideStep place (Whole l) = (l ≡ 2) × (place + 3 ≤ longest_table)
+InsideStep place (Break w) = Inside w
+InsideStep place (Continue l) = (l ≡ 2) × (place + 3 ≤ longest_table)
 
-at : (place : ℕ) → place ≤ longest_table → Inside (WrongKind place)
+at : (place : ℕ) → place ≤ longest_table → Inside (Err (WrongKind place))
 at place h = record { placed = h; reached = omega arith }
 
 module _ (count byte place : ℕ) (rest : List ℕ) (h : place + 3 ≤ longest_table) where
   body-inside : InsideStep place (body_step 2 place rest)
   body-inside = go (leb 2 (length rest)) refl
     where
-      go : (t : Bool) → leb 2 (length rest) ≡ t → InsideStep place (cond t (Whole 2) (Stop (Missing (place + 1 + length rest))))
+      go : (t : Bool) → leb 2 (length rest) ≡ t → InsideStep place (cond t (Continue 2) (Break (Err (Missing (place + 1 + length rest)))))
       go true q = (refl, h)
       go false q = let short = leb-false 2 (length rest) q in record { placed = omega (arith, short); reached = omega (arith, short) }
 
   end-inside : (s : Step) → InsideStep place s → InsideStep place (end_step s count place rest)
-  end-inside (Stop w) i = i
-  end-inside (Whole l) i = go (eqb (word_of (get_or rest 0 0) (get_or rest 1 0)) count) (drop l rest)
+  end-inside (Break w) i = i
+  end-inside (Continue l) i = go (eqb (word_of (get_or rest 0 0) (get_or rest 1 0)) count) (drop l rest)
     where
-      go : (t : Bool) (left : List ℕ) → Inside (cond t (after_end count (place + 1 + l) left) (WrongCount (place + 1)))
+      go : (t : Bool) (left : List ℕ) → Inside (cond t (after_end count (place + 1 + l) left) (Err (WrongCount (place + 1))))
       go true [] = record { placed = omega arith; reached = omega arith }
       go true (b ∷ bs) = record { placed = omega (arith, i.0); reached = omega (arith, i.0) }
       go false left = record { placed = omega arith; reached = omega arith }
@@ -74,7 +74,7 @@ module _ (count byte place : ℕ) (rest : List ℕ) (h : place + 3 ≤ longest_t
 step-inside : (count byte place : ℕ) (rest : List ℕ) → place ≡ 2 + 3 * count → count ≤ max_points + 1 → InsideStep place (table_step count byte place rest)
 step-inside count byte place rest e few = go (eqb place longest_table) refl
   where
-    go : (t : Bool) → eqb place longest_table ≡ t → InsideStep place (cond t (Stop (After place)) (head_step (head_of byte place) (λ kind l. later_table_kind kind l count place rest)))
+    go : (t : Bool) → eqb place longest_table ≡ t → InsideStep place (cond t (Break (Err (After place))) (head_step (head_of byte place) (λ kind l. later_table_kind kind l count place rest)))
     go true q = let same = eqb-true place longest_table q in record { placed = omega (arith, same); reached = omega (arith, same) }
     go false q = let away = eqb-false place longest_table q in kind-inside count byte place rest (omega (arith, away))
 
@@ -91,8 +91,8 @@ inside-next fuel later [] count place h e few = inside-end count place e few
 inside-next fuel later (byte ∷ rest) count place h e few = go (table_step count byte place rest) refl (step-inside count byte place rest e few)
   where
     go : (s : Step) → table_step count byte place rest ≡ s → InsideStep place s → Inside (go_on s (λ l. walk_table_from l (count + 1) (place + 1) rest))
-    go (Stop w) q i = i
-    go (Whole l) q i =
+    go (Break w) q i = i
+    go (Continue l) q i =
         rw (pass table_step count_passed bytes_missing l (count + 1) (place + 1) rest (record-whole count byte place rest l q))
         (later (drop l rest) (count + 1) (place + 1 + l) (omega (arith, h, length-drop l rest)) (omega (arith, e, i.0)) (omega (arith, e, i.1)))
 
@@ -103,13 +103,13 @@ inside-in (suc fuel) rest count place h e few = inside-next fuel (inside-in fuel
 
 -- The first record.
 abbrev FirstStep : List ℕ → Step → Type 0
-FirstStep rest (Stop w) = Inside w
-FirstStep rest (Whole l) = (l ≡ 1) × (1 ≤ length rest)
+FirstStep rest (Break w) = Inside w
+FirstStep rest (Continue l) = (l ≡ 1) × (1 ≤ length rest)
 
 first-inside : (byte : ℕ) (rest : List ℕ) → FirstStep rest (first_table_step byte rest)
 first-inside byte rest = head-cases (λ head. FirstStep rest (head_step head (λ kind l. first_table_kind kind l rest))) byte 0 (λ kind q. kinds kind) (at 0 (omega arith))
   where
-    body : (t : Bool) → leb 1 (length rest) ≡ t → FirstStep rest (cond t (Whole 1) (Stop (Missing (0 + 1 + length rest))))
+    body : (t : Bool) → leb 1 (length rest) ≡ t → FirstStep rest (cond t (Continue 1) (Break (Err (Missing (0 + 1 + length rest)))))
     body true q = (refl, leb-true 1 (length rest) q)
     body false q = let short = leb-false 1 (length rest) q in record { placed = omega (arith, short); reached = omega (arith, short) }
 
@@ -127,8 +127,8 @@ table-inside [] = record { placed = omega arith; reached = omega arith }
 table-inside (byte ∷ rest) = go (first_table_step byte rest) (first-inside byte rest)
   where
     go : (s : Step) → FirstStep rest s → Inside (go_on s (λ l. walk_table_from l 0 1 rest))
-    go (Stop w) i = i
-    go (Whole l) i =
+    go (Break w) i = i
+    go (Continue l) i =
         rw i.0
         (rw (pass table_step count_passed bytes_missing 1 0 1 rest i.1) (inside-in (length (drop 1 rest)) (drop 1 rest) 0 2 (le_refl (length (drop 1 rest))) refl (omega arith)))
 

@@ -11,13 +11,13 @@ use Rattle.gf2.specs.Finite.{Mem}
 use Rattle.table.specs.Flags.{max_points}
 use Rattle.records.specs.Kinds.{end_kind, word_of, low_byte, high_byte, Bytes, encode_end}
 use Rattle.records.proofs.KindBytes.{word-of-bytes, low-of-word, high-of-word, end-bytes}
-use Rattle.records.specs.declared.Walk.TheVariants.{Laid}
 use Rattle.records.specs.Walks.{is_fault}
 use Rattle.stored.specs.Layout.{walked, longest_table}
 use Rattle.stored.specs.Marks.{Mark, record_marks, marks, stored_variables}
 use Rattle.stored.specs.Encoding.{mark_kind, encode_marks, encode_table, Encoded}
 use Rattle.stored.specs.Stored.{LaidOut}
 use Rattle.stored.proofs.Laying.{Laying, end, point, LaidAs, table, walk-laid, laid-few, laid-marks, laid_as, marks-point, marks-end}
+use Rattle.std.specs.Prelude.{Ok}
 
 -- ---- what is written is read
 
@@ -34,7 +34,7 @@ unfolding encode_table
 encoded-as n ms h = table refl (encoded-laying ms 2 0 (length ms) (omega arith) (omega arith))
 
 -- The walk accepts an encoding, and n and the marks are read back.
-pub encoded-laid : (n : ℕ) (ms : List Mark) → length ms ≤ max_points → walked (encode_table n ms) ≡ Laid (length ms)
+pub encoded-laid : (n : ℕ) (ms : List Mark) → length ms ≤ max_points → walked (encode_table n ms) ≡ Ok (length ms)
 encoded-laid n ms h = walk-laid (encoded-as n ms h)
 
 pub encoded-variables : (n : ℕ) (ms : List Mark) → stored_variables (encode_table n ms) ≡ n

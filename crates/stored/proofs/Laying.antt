@@ -17,15 +17,16 @@ use Rattle.records.specs.declared.Kind.{Kind}
 use Rattle.records.specs.declared.Kind.TheVariants.{Variables, Product, Factor, End, On, Free}
 use Rattle.records.specs.Kinds.{kind_byte, variables_kind, end_kind, on_kind, body_length, head_of, word_of, word_record_length}
 use Rattle.records.proofs.KindBytes.{head_byte}
-use Rattle.records.specs.declared.Walk.{Walk}
-use Rattle.records.specs.declared.Walk.TheVariants.{Laid, WrongKind, Missing, WrongVariables, WrongFactor, NotCanonical, WrongCount, After, TooMany}
-use Rattle.records.specs.declared.Step.TheVariants.{Stop}
 use Rattle.records.specs.Walks.{head_step, body_step, after_end, go_on, walk_by, is_fault}
 use Rattle.records.proofs.Whole.{faulty, head-goes}
 use Rattle.stored.specs.Layout.{first_table_kind, later_table_kind, table_step, walk_table_from, walked, first_point, table_length, longest_table}
 use Rattle.stored.specs.Marks.{Mark, mark, no_mark, record_marks, marks, stored_points}
 use Rattle.stored.specs.Encoding.{mark_kind}
 use Rattle.stored.specs.Stored.{LaidOut}
+use Rattle.table.specs.declared.BytesFault.TheVariants.{WrongKind, Missing, WrongVariables, WrongFactor, NotCanonical, WrongCount, After, TooMany}
+use Rattle.records.specs.Walks.{Walk}
+use Rattle.std.specs.Prelude.{Ok, Err}
+use Rattle.std.specs.declared.ops.ControlFlow.TheVariants.{Break}
 
 -- The bytes from a place on, with a number of records of points behind it, are whole records of points and the end, which gives the
 -- number of all of them; none of them begins where no record of a table can.
@@ -41,7 +42,7 @@ pub data LaidAs : List ℕ → ℕ → Type 0 where
 -- ---- from the walk to the records
 
 -- A record whose body is cut.
-cut : (k : Kind) (count place all : ℕ) (rest : List ℕ) (next : ℕ → Walk) {A : Type 0} → length rest < 2 → go_on (later_table_kind k (body_length k) count place rest) next ≡ Laid all → A
+cut : (k : Kind) (count place all : ℕ) (rest : List ℕ) (next : ℕ → Walk) {A : Type 0} → length rest < 2 → go_on (later_table_kind k (body_length k) count place rest) next ≡ Ok all → A
 cut Variables count place all rest next h e = faulty refl e
 cut Product count place all rest next h e = faulty refl e
 cut Factor count place all rest next h e = faulty refl e
@@ -51,20 +52,20 @@ cut End count place all rest next h e = faulty refl (rw (lt-leb 2 (length rest) 
 
 -- A record that begins where one can is of a known kind.
 module _ (byte count place all : ℕ) (rest : List ℕ) (next : ℕ → Walk) where
-  inner : go_on (table_step count byte place rest) next ≡ Laid all
-      → (place ≢ longest_table) × ((k : Kind) × (byte ≡ kind_byte k) × (go_on (later_table_kind k (body_length k) count place rest) next ≡ Laid all))
+  inner : go_on (table_step count byte place rest) next ≡ Ok all
+      → (place ≢ longest_table) × ((k : Kind) × (byte ≡ kind_byte k) × (go_on (later_table_kind k (body_length k) count place rest) next ≡ Ok all))
   inner = go (eqb place longest_table) refl
     where
-      go : (t : Bool) → eqb place longest_table ≡ t → go_on (cond t (Stop (After place)) (head_step (head_of byte place) (λ k l. later_table_kind k l count place rest))) next ≡ Laid all
-          → (place ≢ longest_table) × ((k : Kind) × (byte ≡ kind_byte k) × (go_on (later_table_kind k (body_length k) count place rest) next ≡ Laid all))
+      go : (t : Bool) → eqb place longest_table ≡ t → go_on (cond t (Break (Err (After place))) (head_step (head_of byte place) (λ k l. later_table_kind k l count place rest))) next ≡ Ok all
+          → (place ≢ longest_table) × ((k : Kind) × (byte ≡ kind_byte k) × (go_on (later_table_kind k (body_length k) count place rest) next ≡ Ok all))
       go true p e = faulty refl e
       go false p e = (eqb-false place longest_table p, head-goes byte place (λ k l. later_table_kind k l count place rest) next e)
 
 -- The end record: its number is right, and nothing follows.
-ended : (word count all wrong after : ℕ) (rest : List ℕ) → cond (eqb word count) (after_end count after rest) (WrongCount wrong) ≡ Laid all → (word ≡ count) × (rest ≡ []) × (count ≡ all)
+ended : (word count all wrong after : ℕ) (rest : List ℕ) → cond (eqb word count) (after_end count after rest) (Err (WrongCount wrong)) ≡ Ok all → (word ≡ count) × (rest ≡ []) × (count ≡ all)
 ended word count all wrong after rest = go (eqb word count) refl rest
   where
-    go : (t : Bool) → eqb word count ≡ t → (rest : List ℕ) → cond t (after_end count after rest) (WrongCount wrong) ≡ Laid all → (word ≡ count) × (rest ≡ []) × (count ≡ all)
+    go : (t : Bool) → eqb word count ≡ t → (rest : List ℕ) → cond t (after_end count after rest) (Err (WrongCount wrong)) ≡ Ok all → (word ≡ count) × (rest ≡ []) × (count ≡ all)
     go true p [] e = (eqb-true word count p, refl, cc)
     go true p (b ∷ bs) e = faulty refl e
     go false p rest e = faulty refl e
@@ -79,8 +80,8 @@ module _ (byte low high : ℕ) (rest : List ℕ) (place count all : ℕ) where
   passed = let third : place + 1 + 1 + 1 ≡ place + 3 = omega arith in ap (λ (p : ℕ). walk_table_from 0 (count + 1) p rest) third
 
   whole : (k : Kind) → place ≢ longest_table → byte ≡ kind_byte k
-      → go_on (later_table_kind k (body_length k) count place (low ∷ high ∷ rest)) (λ l. walk_table_from l (count + 1) (place + 1) (low ∷ high ∷ rest)) ≡ Laid all
-      → (walk_table_from 0 (count + 1) (place + 3) rest ≡ Laid all → Laying rest (place + 3) (count + 1) all) → Laying (byte ∷ low ∷ high ∷ rest) place count all
+      → go_on (later_table_kind k (body_length k) count place (low ∷ high ∷ rest)) (λ l. walk_table_from l (count + 1) (place + 1) (low ∷ high ∷ rest)) ≡ Ok all
+      → (walk_table_from 0 (count + 1) (place + 3) rest ≡ Ok all → Laying rest (place + 3) (count + 1) all) → Laying (byte ∷ low ∷ high ∷ rest) place count all
   whole Variables o q e next = faulty refl e
   whole Product o q e next = faulty refl e
   whole Factor o q e next = faulty refl e
@@ -90,7 +91,7 @@ module _ (byte low high : ℕ) (rest : List ℕ) (place count all : ℕ) where
       let h = ended (word_of low high) count all (place + 1) (place + 1 + 2) rest (rw there at e) in
       subst (λ (l : List ℕ). Laying (byte ∷ low ∷ high ∷ l) place count all) (sym h.1) (end o q h.0 h.2)
 
-pub laying : (rest : List ℕ) (place count all : ℕ) → walk_table_from 0 count place rest ≡ Laid all → Laying rest place count all
+pub laying : (rest : List ℕ) (place count all : ℕ) → walk_table_from 0 count place rest ≡ Ok all → Laying rest place count all
 unfolding walk_by
 laying [] place count all e = faulty refl e
 laying (byte ∷ []) place count all e = let h = (inner byte count place all [] _ e).1 in cut h.0 count place all [] _ (omega arith) h.2
@@ -104,12 +105,12 @@ begun : (n : ℕ) (rest : List ℕ) → walk_table_from 0 0 2 rest ≡ walk_tabl
 unfolding walk_by
 begun n rest = refl
 
-pub laid : (bytes : List ℕ) (all : ℕ) → walked bytes ≡ Laid all → LaidAs bytes all
+pub laid : (bytes : List ℕ) (all : ℕ) → walked bytes ≡ Ok all → LaidAs bytes all
 unfolding walked
 laid [] all e = faulty refl e
 laid (byte ∷ rest) all e = let h = head-goes byte 0 (λ k l. first_table_kind k l rest) (λ l. walk_table_from l 0 1 rest) e in go h.0 h.1 rest h.2
   where
-    go : (k : Kind) → byte ≡ kind_byte k → (rest : List ℕ) → go_on (first_table_kind k (body_length k) rest) (λ l. walk_table_from l 0 1 rest) ≡ Laid all → LaidAs (byte ∷ rest) all
+    go : (k : Kind) → byte ≡ kind_byte k → (rest : List ℕ) → go_on (first_table_kind k (body_length k) rest) (λ l. walk_table_from l 0 1 rest) ≡ Ok all → LaidAs (byte ∷ rest) all
     go Variables q [] e = faulty refl e
     go Variables q (n ∷ rest) e = table q (laying rest 2 0 all (begun n rest ∙ (rw (le-leb 1 (length (n ∷ rest)) (omega arith)) at e)))
     go Product q rest e = faulty refl e
@@ -124,14 +125,14 @@ later-point : (is_on : Bool) (count place : ℕ) (rest : List ℕ) → head_step
 later-point true count place rest = rw (head_byte On place)
 later-point false count place rest = rw (head_byte Free place)
 
-pub walk-laying : {rest : List ℕ} {place count all : ℕ} → Laying rest place count all → walk_table_from 0 count place rest ≡ Laid all
+pub walk-laying : {rest : List ℕ} {place count all : ℕ} → Laying rest place count all → walk_table_from 0 count place rest ≡ Ok all
 unfolding walk_by
-walk-laying {place = place} {count = count} (end o q w a) = rw (ne_eqb place longest_table o, q, head_byte End place, eq-eqb _ count w) (ap Laid a)
+walk-laying {place = place} {count = count} (end o q w a) = rw (ne_eqb place longest_table o, q, head_byte End place, eq-eqb _ count w) (ap Ok a)
 walk-laying {place = place} {count = count} {all = all} (point {byte} {low} {high} {rest} is_on o q r) =
     rw (ne_eqb place longest_table o, q, later-point is_on count place (low ∷ high ∷ rest), there byte low high rest place count all)
     (passed byte low high rest place count all ∙ walk-laying r)
 
-pub walk-laid : {bytes : List ℕ} {all : ℕ} → LaidAs bytes all → walked bytes ≡ Laid all
+pub walk-laid : {bytes : List ℕ} {all : ℕ} → LaidAs bytes all → walked bytes ≡ Ok all
 unfolding walked
 walk-laid (table {byte} {n} {rest} q r) = rw (q, head_byte Variables 0, le-leb 1 (length (n ∷ rest)) (omega arith)) (sym (begun n rest) ∙ walk-laying r)
 
@@ -200,19 +201,19 @@ laid-at (table {byte} {n} {rest} q r) i h = laying-at r i h ∙ mark-later 2 (by
 -- ---- bytes that are laid out
 
 -- The walk over bytes that are laid out gives the number of their marks.
-pub laid_out : (bytes : List ℕ) → LaidOut bytes → walked bytes ≡ Laid (length (marks bytes))
+pub laid_out : (bytes : List ℕ) → LaidOut bytes → walked bytes ≡ Ok (length (marks bytes))
 laid_out bytes = go (walked bytes) refl
   where
-    go : (found : Walk) → walked bytes ≡ found → is_fault (walked bytes) ≡ false → walked bytes ≡ Laid (length (marks bytes))
-    go (Laid all) e h = e ∙ ap Laid (sym (laid-marks (laid bytes all e)))
-    go (WrongKind place) e h = clash (ap is_fault e) h
-    go (Missing place) e h = clash (ap is_fault e) h
-    go (WrongCount place) e h = clash (ap is_fault e) h
-    go (After place) e h = clash (ap is_fault e) h
-    go (WrongVariables place) e h = clash (ap is_fault e) h
-    go (WrongFactor place) e h = clash (ap is_fault e) h
-    go (NotCanonical place) e h = clash (ap is_fault e) h
-    go (TooMany place) e h = clash (ap is_fault e) h
+    go : (found : Walk) → walked bytes ≡ found → is_fault (walked bytes) ≡ false → walked bytes ≡ Ok (length (marks bytes))
+    go (Ok all) e h = e ∙ ap Ok (sym (laid-marks (laid bytes all e)))
+    go (Err (WrongKind place)) e h = clash (ap is_fault e) h
+    go (Err (Missing place)) e h = clash (ap is_fault e) h
+    go (Err (WrongCount place)) e h = clash (ap is_fault e) h
+    go (Err (After place)) e h = clash (ap is_fault e) h
+    go (Err (WrongVariables place)) e h = clash (ap is_fault e) h
+    go (Err (WrongFactor place)) e h = clash (ap is_fault e) h
+    go (Err (NotCanonical place)) e h = clash (ap is_fault e) h
+    go (Err (TooMany place)) e h = clash (ap is_fault e) h
 
 pub laid_as : (bytes : List ℕ) → LaidOut bytes → LaidAs bytes (length (marks bytes))
 laid_as bytes h = laid bytes (length (marks bytes)) (laid_out bytes h)
@@ -238,3 +239,6 @@ table-mark bytes h = laid-at (laid_as bytes h)
 
 pub table-point : (bytes : List ℕ) → LaidOut bytes → (i : ℕ) → i < length (marks bytes) → get_or (stored_points bytes) i 0 ≡ (mark_at bytes (first_point + word_record_length * i)).point
 table-point bytes h i l = get_or-map (λ m. m.point) (marks bytes) i no_mark ∙ ap (λ (m : Mark). m.point) (table-mark bytes h i l)
+
+-- What the functions that read one record cite.
+pub ruleset places = (table-length, record-inside, table-point, table-mark)

@@ -5,6 +5,7 @@ pub mod Laying
 pub mod Bounds
 pub mod Encodings
 pub mod Points
+pub mod Numbered
 pub mod Accepting
 pub mod Rooms
 pub mod Exactly

@@ -1,5 +1,5 @@
 -- The points of some of the marks: of a rising list they rise, no point is on and free, and they grow mark by mark as a loop takes them.
--- Read next: Accepting.
+-- Read next: Numbered.
 use mathlib.Core.Path.{◌≡◌, refl, sym, ap, ◌∙◌}
 use mathlib.Core.Bool.{Bool, true, false, cond, beq}
 use mathlib.Core.Logic.{inl, inr}

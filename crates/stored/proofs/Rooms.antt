@@ -12,7 +12,7 @@ use borrow.Author.Tests.{ltb-false}
 use Rattle.gf2.proofs.Logic.{or-none}
 use Rattle.table.specs.Refusal.{Test, test, first_fault, first_place, room_fault}
 use Rattle.table.specs.Decision.{front}
-use Rattle.table.proofs.Refusal.{fault-append, fault-before, place-append, place-before}
+use Rattle.table.proofs.FirstFault.{fault-append, fault-before, place-append, place-before}
 use Rattle.table.proofs.Decide.{decide-accepted, decide-refused}
 use Rattle.stored.specs.Marks.{stored_on, stored_free}
 use Rattle.stored.specs.Stored.{stored_tests, stored_fault, stored_place}

@@ -17,11 +17,6 @@ use Rattle.table.specs.Refusal.{Test}
 use Rattle.table.specs.Flags.{max_points}
 use Rattle.records.specs.declared.Kind.{Kind}
 use Rattle.records.specs.declared.Kind.TheVariants.{Variables, Product, Factor, End, On, Free}
-use Rattle.records.specs.declared.RecordHead.{RecordHead}
-use Rattle.records.specs.declared.RecordHead.TheVariants.{Known, Refused}
-use Rattle.records.specs.declared.Walk.TheVariants.{Laid, After}
-use Rattle.records.specs.declared.Step.{Step}
-use Rattle.records.specs.declared.Step.TheVariants.{Whole, Stop}
 use Rattle.records.specs.Kinds.{body_length, known, head_of, Bytes, encode_end}
 use Rattle.records.specs.Walks.{head_step, body_step, end_step, go_on, walk_by, fault_number, is_fault}
 use Rattle.records.specs.Faults.{Record, record_of, IsWhole, records_bytes, place_after, is_end, ended, record_count, counted_in, is_closed, begins_surplus, kind_faults, body_faults, missing_faults, body_or_missing, faults_after}
@@ -34,6 +29,11 @@ use Rattle.records.proofs.Paths.{walk_after, FirstAt, Found, broken, missing, la
 use Rattle.stored.specs.Layout.{first_table_kind, first_table_step, later_table_kind, table_step, count_passed, walk_table_from, walked, longest_table}
 use Rattle.stored.specs.Faults.{is_point, table_admits, table_rules}
 use Rattle.stored.specs.Stored.{table_faults}
+use Rattle.table.specs.declared.BytesFault.TheVariants.{After}
+use Rattle.records.specs.Kinds.{RecordHead}
+use Rattle.records.specs.Walks.{Step}
+use Rattle.std.specs.Prelude.{Ok, Err}
+use Rattle.std.specs.declared.ops.ControlFlow.TheVariants.{Continue, Break}
 
 -- ---- the two walks agree
 
@@ -71,12 +71,12 @@ later_same count before byte place rest a = go (eqb place longest_table) refl
         (λ kind q. kinds p kind) (rw (p, a.awaits))
 
 -- A point that is passed lies behind both walks.
-again : (count : ℕ) (before : List Record) (byte place : ℕ) (rest : List ℕ) (l : ℕ) → Alike count before place → table_step count byte place rest ≡ Whole l
+again : (count : ℕ) (before : List Record) (byte place : ℕ) (rest : List ℕ) (l : ℕ) → Alike count before place → table_step count byte place rest ≡ Continue l
     → Alike (count_passed count byte rest) (pushed before byte rest) (place + 1 + l)
 again count before byte place rest l a e = go (eqb place longest_table) e
   where
     -- A point of this kind.
-    passed : (kind : Kind) → is_point kind ≡ true → body_length kind ≡ 2 → is_end kind ≡ false → body_step 2 place rest ≡ Whole l
+    passed : (kind : Kind) → is_point kind ≡ true → body_length kind ≡ 2 → is_end kind ≡ false → body_step 2 place rest ≡ Continue l
         → Alike (count + 1) (before ++ (record_of kind (take (body_length kind) rest) ∷ [])) (place + 1 + l)
     passed kind p two n q =
         let b = body-length 2 place rest l q in
@@ -89,7 +89,7 @@ again count before byte place rest l a e = go (eqb place longest_table) e
           admitted = admits-later before r;
         }
 
-    kinds : (kind : Kind) → later_table_kind kind (body_length kind) count place rest ≡ Whole l → Alike (count + 1) (before ++ (record_of kind (take (body_length kind) rest) ∷ [])) (place + 1 + l)
+    kinds : (kind : Kind) → later_table_kind kind (body_length kind) count place rest ≡ Continue l → Alike (count + 1) (before ++ (record_of kind (take (body_length kind) rest) ∷ [])) (place + 1 + l)
     kinds Variables q = not-whole q
     kinds Product q = not-whole q
     kinds Factor q = not-whole q
@@ -97,11 +97,11 @@ again count before byte place rest l a e = go (eqb place longest_table) e
     kinds Free q = passed Free refl refl refl q
     kinds End q = ended-not (body_step 2 place rest) q
       where
-        ended-not : {A : Type 0} (s : Step) → end_step s count place rest ≡ Whole l → A
-        ended-not (Whole k) q = not-whole q
-        ended-not (Stop w) q = not-whole q
+        ended-not : {A : Type 0} (s : Step) → end_step s count place rest ≡ Continue l → A
+        ended-not (Continue k) q = not-whole q
+        ended-not (Break w) q = not-whole q
 
-    go : (t : Bool) → cond t (Stop (After place)) (head_step (head_of byte place) (λ k m. later_table_kind k m count place rest)) ≡ Whole l → Alike (count + 1) (pushed before byte rest) (place + 1 + l)
+    go : (t : Bool) → cond t (Break (Err (After place))) (head_step (head_of byte place) (λ k m. later_table_kind k m count place rest)) ≡ Continue l → Alike (count + 1) (pushed before byte rest) (place + 1 + l)
     go true q = not-whole q
     go false q =
         let h = head-whole byte place (λ k m. later_table_kind k m count place rest) q in
@@ -124,14 +124,14 @@ first-same byte rest =
     kinds On = refl
     kinds Free = refl
 
-begins-alike : (byte : ℕ) (rest : List ℕ) (l : ℕ) → first_table_step byte rest ≡ Whole l → Alike 0 (pushed [] byte rest) (1 + l)
+begins-alike : (byte : ℕ) (rest : List ℕ) (l : ℕ) → first_table_step byte rest ≡ Continue l → Alike 0 (pushed [] byte rest) (1 + l)
 unfolding records_bytes ended record_count
 begins-alike byte rest l e =
     let h = head-whole byte 0 (λ k m. first_table_kind k m rest) e in
     let same : pushed [] byte rest ≡ record_of h.0 (take (body_length h.0) rest) ∷ [] = ap (λ (b : ℕ). pushed [] b rest) h.1 ∙ pushed-kind [] h.0 rest in
     subst (λ (b : List Record). Alike 0 b (1 + l)) (sym same) (kinds h.0 h.2)
   where
-    kinds : (kind : Kind) → first_table_kind kind (body_length kind) rest ≡ Whole l → Alike 0 (record_of kind (take (body_length kind) rest) ∷ []) (1 + l)
+    kinds : (kind : Kind) → first_table_kind kind (body_length kind) rest ≡ Continue l → Alike 0 (record_of kind (take (body_length kind) rest) ∷ []) (1 + l)
     kinds Variables q =
         let b = body-length 1 0 rest l q in
         let r = record_of Variables (take 1 rest) in
@@ -153,8 +153,8 @@ table-ruled [] = refl
 table-ruled (byte ∷ rest) = rw (sym (first-same byte rest)) (go (first_table_step byte rest) refl)
   where
     go : (s : Step) → first_table_step byte rest ≡ s → go_on s (λ l. walk_table_from l 0 1 rest) ≡ go_on s (λ l. walk_rules table_rules l (pushed [] byte rest) 1 rest)
-    go (Stop w) e = refl
-    go (Whole l) e = walk-alike table_step count_passed (rule_step table_rules) pushed Alike later_same again l 0 (pushed [] byte rest) 1 rest (begins-alike byte rest l e)
+    go (Break w) e = refl
+    go (Continue l) e = walk-alike table_step count_passed (rule_step table_rules) pushed Alike later_same again l 0 (pushed [] byte rest) 1 rest (begins-alike byte rest l e)
 
 -- ---- what the walk keeps
 
@@ -208,15 +208,15 @@ keeps before r (inr k) w l a s n = inr (next r.kind refl (sym (k.some r.kind) �
     next End q t u = clash (ap is_end q) u
 
 -- The shortest input is a table.
-shortest-laid : walked shortest ≡ Laid 0
+shortest-laid : walked shortest ≡ Ok 0
 unfolding walked walk_by head_of
 shortest-laid = refl
 
 -- Any such records can be followed by the end; before all of them stands n.
 completes : (before : List Record) → Behind before → ended before ≡ false → eqb (place_after before) longest_table ≡ false
-    → (more : List ℕ) × Bytes more × (count : ℕ) × (walk_after table_rules before more ≡ Laid count)
+    → (more : List ℕ) × Bytes more × (count : ℕ) × (walk_after table_rules before more ≡ Ok count)
 unfolding records_bytes
-completes before (inl e) a l = (shortest, shortest-bytes, 0, subst (λ (b : List Record). walk_after table_rules b shortest ≡ Laid 0) (sym e) (sym (table-ruled shortest) ∙ shortest-laid))
+completes before (inl e) a l = (shortest, shortest-bytes, 0, subst (λ (b : List Record). walk_after table_rules b shortest ≡ Ok 0) (sym e) (sym (table-ruled shortest) ∙ shortest-laid))
 completes before (inr k) a l =
     let count = counted_in table_rules before in
     (encode_end count, end-bytes count (omega (arith, k.few)), count, end-laid table_rules before a l (k.some End) refl)
@@ -248,8 +248,8 @@ numbers before (byte ∷ rest) t m a =
     head = head_of byte here
 
     no-surplus : (t : Bool) (h : RecordHead) → t && begins_surplus table_rules before h ≡ false
-    no-surplus t (Known kind l) = and-false t
-    no-surplus t (Refused fault) = and-false t
+    no-surplus t (Ok (kind, l)) = and-false t
+    no-surplus t (Err fault) = and-false t
 
     judged : (kind : Kind) (body : List ℕ) → Mem t (body_faults table_rules before (here + 1) kind body) → Mem t.number table_faults
     judged Variables body (inl e) = clash a (ap (λ (u : Test). u.applies) e)
@@ -264,8 +264,8 @@ numbers before (byte ∷ rest) t m a =
     judged Free body e = absurd e
 
     bodies : (h : RecordHead) → Mem t (body_or_missing table_rules before here h rest) → Mem t.number table_faults
-    bodies (Refused fault) k = absurd k
-    bodies (Known kind l) k = go (leb l (length rest)) k
+    bodies (Err fault) k = absurd k
+    bodies (Ok (kind, l)) k = go (leb l (length rest)) k
       where
         go : (b : Bool) → Mem t (cond b (body_faults table_rules before (here + 1) kind (take l rest)) (missing_faults here rest)) → Mem t.number table_faults
         go true k = judged kind (take l rest) k

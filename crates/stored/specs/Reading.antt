@@ -2,6 +2,8 @@
 -- Read next: crate `space`, which completes the table.
 use Rattle.std.specs.Prelude.{◌||◌, List, [], ◌∷◌, ◌++◌, ℕ, ltb, length}
 use Rattle.table.specs.Refusal.{Test, test, first_fault, first_place, room_fault}
+use Rattle.table.specs.declared.Refusal.{Refusal}
+use Rattle.table.specs.Answers.{number_of, place_of}
 use Rattle.table.specs.Decision.{Decision, answer_of, after_of}
 use Rattle.stored.specs.declared.TableRead.{TableRead}
 use Rattle.stored.specs.Marks.{stored_variables, stored_on, stored_free}
@@ -22,6 +24,10 @@ read_place bytes on_room free_room = first_place (read_tests bytes on_room free_
 -- A refusal returns its number and its place with all other numbers 0.
 abbrev pub read_refused : ℕ → ℕ → TableRead
 read_refused place fault = record { refusal = fault; place = place; variables = 0; on_count = 0; free_count = 0 }
+
+-- What the call gives for a refusal.
+abbrev pub refused_read : Refusal → TableRead
+refused_read refusal = read_refused (place_of refusal) (number_of refusal)
 
 -- An accepted table returns n and the lengths of both lists.
 abbrev pub read_accepted : List ℕ → TableRead

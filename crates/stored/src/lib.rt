@@ -5,16 +5,18 @@
 ghost use Rattle.std.specs.Prelude.{◌≡◌, ◌+◌, ◌≤◌, ◌<◌, length, get_or, drop};
 ghost use Rattle.std.specs.Bool.{beq};
 ghost use Rattle.gf2.specs.Limits.{max_variables};
-ghost use Rattle.table.specs.Refusal.{first_fault, fault_of};
+ghost use Rattle.table.specs.Refusal.{fault_of};
+ghost use Rattle.table.specs.Answers.{fault_from, settled};
 ghost use Rattle.table.specs.Decision.{front};
 ghost use Rattle.table.specs.Table.{outside, unordered};
 ghost use Rattle.stored.specs.Marks.{no_mark, marks, marked_points, stored_variables, stored_points};
-ghost use Rattle.stored.specs.Reading.{read_tests, read_answer, read_on_after, read_free_after};
+ghost use Rattle.stored.specs.Reading.{read_tests, refused_read, read_answer, read_on_after, read_free_after};
 ghost use Rattle.stored.specs.Stored.{LaidOut, point_tests, stored_tests};
 ghost use Rattle.stored.specs.Layout.{first_table_step, table_step, walk_table_from, walked};
 
-use records::{Kind, RecordHead, Step, WORD_RECORD_LENGTH, Walk};
-use table::Fault;
+use records::{Kind, Step, WORD_RECORD_LENGTH, Walk};
+use std::ops::ControlFlow;
+use table::{Answer, BytesFault, Refusal};
 
 // Where the records of points begin, as `first_point` in specs/.
 pub const FIRST_POINT: usize = 2;
@@ -24,7 +26,7 @@ pub const LONGEST_TABLE: usize = FIRST_POINT
     + WORD_RECORD_LENGTH * table::MAX_POINTS
     + WORD_RECORD_LENGTH;
 
-// What reading gives: the refusal or 0, its byte place, n, and how many on and free points there are.
+// What reading gives: the refusal or 0, its byte place, n, and how many on and free points there are. C reads the refusal as its number.
 #[repr(C)]
 #[derive(Clone, Copy)]
 pub struct TableRead {
@@ -35,17 +37,29 @@ pub struct TableRead {
     pub free_count: usize,
 }
 
+impl Answer for TableRead {
+    ghost refused_with = { refused_read };
+
+    fn refused(refusal: Refusal) -> TableRead {
+        TableRead {
+            refusal: refusal.number(),
+            place: refusal.place(),
+            variables: 0,
+            on_count: 0,
+            free_count: 0,
+        }
+    }
+}
+
 // The first record of a table.
 fn first_step(bytes: &[u8]) -> Step
     requires { 0 < length bytes.now }
     ensures { result ≡ first_table_step (get_or bytes.now 0 0) (drop 1 bytes.now) }
 {
     match records::head_of(bytes[0], 0) {
-        RecordHead::Refused(fault) => Step::Stop(fault),
-        RecordHead::Known(kind, body) => match kind {
-            Kind::Variables => records::body_step(bytes, 0, body),
-            _ => Step::Stop(Walk::WrongKind(0)),
-        },
+        Ok((Kind::Variables, body)) => records::body_step(bytes, 0, body),
+        Ok(_) => ControlFlow::Break(Err(BytesFault::WrongKind(0))),
+        Err(fault) => ControlFlow::Break(Err(fault)),
     }
 }
 
@@ -55,20 +69,17 @@ fn record_step(bytes: &[u8], count: usize, place: usize) -> Step
     ensures { result ≡ table_step count (get_or bytes.now place 0) place (drop (place + 1) bytes.now) }
 {
     if place == LONGEST_TABLE {
-        return Step::Stop(Walk::After(place));
+        return ControlFlow::Break(Err(BytesFault::After(place)));
     }
     match records::head_of(bytes[place], place) {
-        RecordHead::Refused(fault) => Step::Stop(fault),
-        RecordHead::Known(kind, body) => match kind {
-            Kind::On => records::body_step(bytes, place, body),
-            Kind::Free => records::body_step(bytes, place, body),
-            Kind::End => records::end_step(bytes, count, place, body),
-            _ => Step::Stop(Walk::WrongKind(place)),
-        },
+        Ok((Kind::On | Kind::Free, body)) => records::body_step(bytes, place, body),
+        Ok((Kind::End, body)) => records::end_step(bytes, count, place, body),
+        Ok(_) => ControlFlow::Break(Err(BytesFault::WrongKind(place))),
+        Err(fault) => ControlFlow::Break(Err(fault)),
     }
 }
 
-// The walk over the records after the first, from the place on.
+// The walk over the records after the first, from the place on. The place moves by the length of each record, which is why no range counts it.
 fn walk_records(bytes: &[u8], start: usize) -> Walk
     requires { start ≤ length bytes.now }
     ensures { result ≡ walk_table_from 0 0 start (drop start bytes.now) }
@@ -77,32 +88,32 @@ fn walk_records(bytes: &[u8], start: usize) -> Walk
     let mut place = start;
     while place < bytes.len() {
         match record_step(bytes, count, place) {
-            Step::Stop(end) => {
-                return end;
-            }
-            Step::Whole(length) => {
+            ControlFlow::Break(end) => return end,
+            ControlFlow::Continue(length) => {
                 place = place + 1 + length;
                 count += 1;
             }
         }
     }
-    Walk::Missing(place)
+    Err(BytesFault::Missing(place))
 }
 
 // The walk over the bytes of a table.
 pub fn walk_table(bytes: &[u8]) -> Walk
     ensures { result ≡ walked bytes.now }
 {
-    if bytes.len() == 0 {
-        return Walk::Missing(0);
+    if bytes.is_empty() {
+        return Err(BytesFault::Missing(0));
     }
     match first_step(bytes) {
-        Step::Stop(end) => end,
-        Step::Whole(length) => walk_records(bytes, 1 + length),
+        ControlFlow::Break(end) => end,
+        ControlFlow::Continue(length) => walk_records(bytes, 1 + length),
     }
 }
 
-// n, the body of the first record.
+// n, the body of the first record. This function and those after it take bytes, which `LaidOut` says are laid out as a table: a struct of such bytes
+// would ask more of the callers of the public ones.
+#[tactic(auto, using(crate::proofs::Laying::places))]
 pub fn variables(bytes: &[u8]) -> usize
     requires { LaidOut bytes.now }
     ensures { result ≡ stored_variables bytes.now }
@@ -111,6 +122,7 @@ pub fn variables(bytes: &[u8]) -> usize
 }
 
 // The number of records of points: the first record, theirs and the end record take up all the bytes.
+#[tactic(auto, using(crate::proofs::Laying::places))]
 pub fn record_count(bytes: &[u8]) -> usize
     requires { LaidOut bytes.now }
     ensures { result ≡ length (marks bytes.now) }
@@ -119,6 +131,7 @@ pub fn record_count(bytes: &[u8]) -> usize
 }
 
 // The point of a record, by the record's number.
+#[tactic(auto, using(crate::proofs::Laying::places))]
 pub fn point_at(bytes: &[u8], i: usize) -> u16
     requires laid_out { LaidOut bytes.now }
     requires i_in_bounds { i < length (marks bytes.now) }
@@ -128,22 +141,14 @@ pub fn point_at(bytes: &[u8], i: usize) -> u16
     records::word(bytes[place + 1], bytes[place + 2])
 }
 
-// A point of a record is 2^n or more.
+// A point of a record is 2^n or more. Table's `outside` asks it of a list; one function over both would be no plainer than the chain.
 fn points_outside(bytes: &[u8], n: usize) -> bool
     requires laid_out { LaidOut bytes.now }
     requires n_le_max_variables { n ≤ max_variables }
     ensures { result ≡ outside n (stored_points bytes.now) }
 {
     let size = table::point_count(n);
-    let count = record_count(bytes);
-    let mut i = 0;
-    while i < count {
-        if point_at(bytes, i) >= size {
-            return true;
-        }
-        i += 1;
-    }
-    false
+    (0..record_count(bytes)).any(|i| point_at(bytes, i) >= size)
 }
 
 // The point of a record isn't greater than that of the record before it.
@@ -151,47 +156,37 @@ fn points_unordered(bytes: &[u8]) -> bool
     requires { LaidOut bytes.now }
     ensures { result ≡ unordered (stored_points bytes.now) }
 {
-    let count = record_count(bytes);
-    let mut i = 0;
-    while i + 1 < count {
-        if point_at(bytes, i + 1) <= point_at(bytes, i) {
-            return true;
-        }
-        i += 1;
-    }
-    false
+    (1..record_count(bytes)).any(|i| point_at(bytes, i) <= point_at(bytes, i - 1))
 }
 
-// The refusal of bytes that are laid out, or 0: n, then all points, then their order as one list.
-fn points_fault(bytes: &[u8]) -> u8
+// The tests of bytes that are laid out: n, then all points, then their order as one list.
+fn check_points(bytes: &[u8]) -> Result<(), Refusal>
     requires { LaidOut bytes.now }
-    ensures { result ≡ first_fault (point_tests bytes.now) }
+    ensures { fault_from result ≡ fault_of (point_tests bytes.now) }
 {
     let n = variables(bytes);
     if table::bad_count(n) {
-        return table::VARIABLES_FAULT;
+        return Err(Refusal::Variables);
     }
     if points_outside(bytes, n) {
-        return table::POINT_FAULT;
+        return Err(Refusal::Point);
     }
     if points_unordered(bytes) {
-        return table::ORDER_FAULT;
+        return Err(Refusal::Order);
     }
-    0
+    Ok(())
 }
 
-// What is wrong with a stored table: the layout over the whole length, with its place, then n and the points.
-pub fn stored_fault(bytes: &[u8]) -> Fault
-    ensures { result ≡ fault_of (stored_tests bytes.now) }
+// The tests of a stored table: the layout over the whole length, with its place, then n and the points.
+pub fn check_stored(bytes: &[u8]) -> Result<(), Refusal>
+    ensures { fault_from result ≡ fault_of (stored_tests bytes.now) }
 {
-    let fault = records::layout_fault(walk_table(bytes));
-    if fault.number != 0 {
-        return fault;
-    }
-    table::fault_at(points_fault(bytes), 0)
+    walk_table(bytes)?;
+    check_points(bytes)
 }
 
-// A record, by its number, is of an on point if those are asked for, or else of a free point.
+// A record, by its number, is of an on point if those are asked for, or else of a free point. A flag says which, as `is_on` does of a mark in specs/.
+#[tactic(auto, using(crate::proofs::Laying::places))]
 pub fn is_marked(bytes: &[u8], i: usize, on: bool) -> bool
     requires laid_out { LaidOut bytes.now }
     requires i_in_bounds { i < length (marks bytes.now) }
@@ -201,83 +196,68 @@ pub fn is_marked(bytes: &[u8], i: usize, on: bool) -> bool
     on == (bytes[place] == records::ON_KIND)
 }
 
-// The number of on points, or of free points.
+// The number of on points, or of free points. They are counted before the first is written, since a refusal leaves the rooms as they were.
 fn count_points(bytes: &[u8], on: bool) -> usize
     requires { LaidOut bytes.now }
     ensures { result ≡ length (marked_points on (marks bytes.now)) }
 {
-    let count = record_count(bytes);
-    let mut found = 0;
-    let mut i = 0;
-    while i < count {
-        if is_marked(bytes, i, on) {
-            found += 1;
-        }
-        i += 1;
-    }
-    found
+    (0..record_count(bytes))
+        .filter(|i| is_marked(bytes, *i, on))
+        .count()
 }
 
 // The on points, or the free points, written to the front of the room; how many they are.
 fn write_points(bytes: &[u8], on: bool, room: &mut [u16]) -> usize
     requires laid_out { LaidOut bytes.now }
-    requires bytes_in_bounds { length (marked_points on (marks bytes.now)) ≤ length room.old }
-    ensures value { result ≡ length (marked_points on (marks bytes.now)) }
+    requires enough_room { length (marked_points on (marks bytes.now)) ≤ length room.old }
+    ensures count { result ≡ length (marked_points on (marks bytes.now)) }
     ensures room_after { room.new ≡ front (marked_points on (marks bytes.now)) room.old }
 {
-    let count = record_count(bytes);
     let mut at = 0;
-    let mut i = 0;
-    while i < count {
+    for i in 0..record_count(bytes) {
         if is_marked(bytes, i, on) {
             room[at] = point_at(bytes, i);
             at += 1;
         }
-        i += 1;
     }
     at
 }
 
-// What is wrong with reading into rooms of these lengths.
-fn read_fault(bytes: &[u8], on: usize, free: usize) -> Fault
-    ensures { result ≡ fault_of (read_tests bytes.now on free) }
+// The tests of reading into rooms of these lengths.
+fn check_read(bytes: &[u8], on_room: usize, free_room: usize) -> Result<(), Refusal>
+    ensures { fault_from result ≡ fault_of (read_tests bytes.now on_room free_room) }
 {
-    let fault = stored_fault(bytes);
-    if fault.number != 0 {
-        return fault;
+    check_stored(bytes)?;
+    if on_room < count_points(bytes, true) || free_room < count_points(bytes, false) {
+        return Err(Refusal::Room);
     }
-    if on < count_points(bytes, true) {
-        return table::fault_at(table::ROOM_FAULT, 0);
-    }
-    if free < count_points(bytes, false) {
-        return table::fault_at(table::ROOM_FAULT, 0);
-    }
-    fault
+    Ok(())
 }
 
-// The stored table read into two rooms, one for the on points and one for the free points. A refusal writes to neither.
-pub fn read_table(bytes: &[u8], on: &mut [u16], free: &mut [u16]) -> TableRead
-    ensures value { result ≡ read_answer bytes.now (length on.old) (length free.old) }
+// The stored table read into two rooms, one for the on points and one for the free points, or why it is refused. A refusal writes to neither.
+pub fn try_read(bytes: &[u8], on: &mut [u16], free: &mut [u16]) -> Result<TableRead, Refusal>
+    ensures refusal { fault_from result ≡ fault_of (read_tests bytes.now (length on.old) (length free.old)) }
+    ensures answer { settled refused_read result ≡ read_answer bytes.now (length on.old) (length free.old) }
     ensures on_after { on.new ≡ read_on_after bytes.now on.old free.old }
     ensures free_after { free.new ≡ read_free_after bytes.now on.old free.old }
 {
-    let fault = read_fault(bytes, on.len(), free.len());
-    if fault.number != 0 {
-        return TableRead {
-            refusal: fault.number,
-            place: fault.place,
-            variables: 0,
-            on_count: 0,
-            free_count: 0,
-        };
-    }
+    check_read(bytes, on.len(), free.len())?;
     let on_count = write_points(bytes, true, &mut *on);
     let free_count = write_points(bytes, false, &mut *free);
-    TableRead {
+    Ok(TableRead {
         refusal: 0,
         place: 0,
         variables: variables(bytes),
         on_count,
         free_count,
-    }
+    })
+}
+
+// The same for C, with the refusal's number in the answer.
+pub fn read_table(bytes: &[u8], on: &mut [u16], free: &mut [u16]) -> TableRead
+    ensures value { result ≡ read_answer bytes.now (length on.old) (length free.old) }
+    ensures on_after { on.new ≡ read_on_after bytes.now on.old free.old }
+    ensures free_after { free.new ≡ read_free_after bytes.now on.old free.old }
+{
+    table::settle(try_read(bytes, on, free))
 }

@@ -3,9 +3,8 @@ use mathlib.Core.Path.{◌≡◌, subst}
 use mathlib.Core.List.{List}
 use Prim.Native.Nat.{ℕ, ◌≤◌}
 use lib.ListN.{length}
-use Rattle.streams.specs.declared.Input.{Input}
-use Rattle.streams.specs.declared.Input.TheVariants.{Bytes}
+use Rattle.std.specs.Prelude.{Result, Ok}
 use Rattle.streams.specs.Reading.{ReadInto}
 
-pub read-within : (count : ℕ) (room : List ℕ) {read : Input} → ReadInto read room → read ≡ Bytes count → count ≤ length room
-read-within count room {read} h e = (subst (λ (i : Input). ReadInto i room) e h).0
+pub read-within : {E : Type 0} (count : ℕ) (room : List ℕ) {read : Result ℕ E} → ReadInto read room → read ≡ Ok count → count ≤ length room
+read-within {E} count room h e = (subst (λ (r : Result ℕ E). ReadInto r room) e h).0

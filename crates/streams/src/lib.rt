@@ -4,32 +4,27 @@
 
 ghost use Rattle.streams.specs.Reading.{ReadInto};
 
-use std::io::{Print, Read};
+use std::io::{self, Print, Read};
 
-// What reading gave: how many bytes stand at the front of the room, or that a read failed.
-#[derive(Clone, Copy)]
-pub enum Input {
-    Bytes(usize),
-    Failed,
-}
-
-// Reads standard input to the front of the room, until it ends or the room is full. A read that fails is said on standard error.
-pub fn read_input(rt: &HostRuntime, room: &mut [u8]) -> Input
+// Reads standard input to the front of the room, until it ends or the room is full, and says how many bytes these are. A read that fails is said on
+// standard error.
+pub fn read_input(rt: &HostRuntime, room: &mut [u8]) -> io::Result<usize>
     ensures { ReadInto result room.new }
 {
     let mut input = rt.stdin();
     let mut count = 0;
+    // A `while`, since each read says how many bytes came: std reads to the end of input only to the heap.
     while count < room.len() {
-        let Ok(more) = input.read(&mut room[count..]) else {
-            complain(rt, b"standard input can't be read\n");
-            return Input::Failed;
-        };
-        if more == 0 {
-            break;
+        match input.read(&mut room[count..]) {
+            Ok(0) => break,
+            Ok(more) => count += more,
+            Err(error) => {
+                complain(rt, b"standard input can't be read\n");
+                return Err(error);
+            }
         }
-        count += more;
     }
-    Input::Bytes(count)
+    Ok(count)
 }
 
 // Writes bytes to standard output, and says on standard error if that fails.

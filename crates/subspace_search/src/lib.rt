@@ -10,76 +10,80 @@ ghost use Rattle.basis.specs.Short.{listed, short};
 ghost use Rattle.basis.specs.Reduced.{basis_of};
 ghost use Rattle.point_sets.specs.Sets.{set_variables, set_size, member};
 ghost use Rattle.subspaces.specs.Spaces.{largest};
-ghost use Rattle.subspace_search.specs.Search.{narrowed, longer, longest, following_words};
+ghost use Rattle.subspace_search.specs.Search.{narrowed, longer, longest};
 
 use basis::{Basis, ShortList};
-use point_sets::SET_WORDS;
+use point_sets::{SET_VARIABLES, SET_WORDS};
 
-// The words of the vectors that may follow one whose lead is a place, as `following_words`: four for each place.
-const FOLLOWING_WORDS: usize = 32;
-
-const FOLLOWING: [u64; FOLLOWING_WORDS] = [
-    0x5555555555555554,
-    0x5555555555555555,
-    0x5555555555555555,
-    0x5555555555555555,
-    0x3333333333333330,
-    0x3333333333333333,
-    0x3333333333333333,
-    0x3333333333333333,
-    0x0F0F0F0F0F0F0F00,
-    0x0F0F0F0F0F0F0F0F,
-    0x0F0F0F0F0F0F0F0F,
-    0x0F0F0F0F0F0F0F0F,
-    0x00FF00FF00FF0000,
-    0x00FF00FF00FF00FF,
-    0x00FF00FF00FF00FF,
-    0x00FF00FF00FF00FF,
-    0x0000FFFF00000000,
-    0x0000FFFF0000FFFF,
-    0x0000FFFF0000FFFF,
-    0x0000FFFF0000FFFF,
-    0x0000000000000000,
-    0x00000000FFFFFFFF,
-    0x00000000FFFFFFFF,
-    0x00000000FFFFFFFF,
-    0x0000000000000000,
-    0x0000000000000000,
-    0xFFFFFFFFFFFFFFFF,
-    0x0000000000000000,
-    0x0000000000000000,
-    0x0000000000000000,
-    0x0000000000000000,
-    0x0000000000000000,
+// The vectors that may follow one whose lead is a place, for each place, as `following_words`. A static is read where it stands; a constant would be
+// stored anew at each use.
+static FOLLOWING: [[u64; SET_WORDS]; SET_VARIABLES] = [
+    [
+        0x5555555555555554,
+        0x5555555555555555,
+        0x5555555555555555,
+        0x5555555555555555,
+    ],
+    [
+        0x3333333333333330,
+        0x3333333333333333,
+        0x3333333333333333,
+        0x3333333333333333,
+    ],
+    [
+        0x0F0F0F0F0F0F0F00,
+        0x0F0F0F0F0F0F0F0F,
+        0x0F0F0F0F0F0F0F0F,
+        0x0F0F0F0F0F0F0F0F,
+    ],
+    [
+        0x00FF00FF00FF0000,
+        0x00FF00FF00FF00FF,
+        0x00FF00FF00FF00FF,
+        0x00FF00FF00FF00FF,
+    ],
+    [
+        0x0000FFFF00000000,
+        0x0000FFFF0000FFFF,
+        0x0000FFFF0000FFFF,
+        0x0000FFFF0000FFFF,
+    ],
+    [
+        0x0000000000000000,
+        0x00000000FFFFFFFF,
+        0x00000000FFFFFFFF,
+        0x00000000FFFFFFFF,
+    ],
+    [
+        0x0000000000000000,
+        0x0000000000000000,
+        0xFFFFFFFFFFFFFFFF,
+        0x0000000000000000,
+    ],
+    [
+        0x0000000000000000,
+        0x0000000000000000,
+        0x0000000000000000,
+        0x0000000000000000,
+    ],
 ];
 
-// All of them, made once for a search.
-fn following_words() -> [u64; FOLLOWING_WORDS]
-    ensures { result ≡ following_words }
-{
-    FOLLOWING
-}
-
 // The vectors that may follow one whose lead is the place: those of higher lead with that bit clear.
-fn following(words: &[u64; FOLLOWING_WORDS], place: usize) -> [u64; SET_WORDS]
-    requires words_value { words.now ≡ following_words }
-    requires place_lt_set_variables { place < set_variables }
-    ensures { (x : ℕ) → x < set_size → member result x ≡ leb (2 ^ (place + 1)) x && not (bit place x) }
+fn following(place: usize) -> &'static [u64; SET_WORDS]
+    requires { place < set_variables }
+    ensures { (x : ℕ) → x < set_size → member result.now x ≡ leb (2 ^ (place + 1)) x && not (bit place x) }
 {
-    let at = SET_WORDS * place;
-    [words[at], words[at + 1], words[at + 2], words[at + 3]]
+    &FOLLOWING[place]
 }
 
 // The vectors of the set that may follow b.
-fn narrow(set: &[u64; SET_WORDS], b: u16, words: &[u64; FOLLOWING_WORDS]) -> [u64; SET_WORDS]
-    requires b_nonzero { (0 < b) × (b < set_size) }
-    requires words_value { words.now ≡ following_words }
+fn narrow(set: &[u64; SET_WORDS], b: u16) -> [u64; SET_WORDS]
+    requires { (0 < b) × (b < set_size) }
     ensures { (x : ℕ) → member result x ≡ narrowed (member set.now) b x }
 {
     let moved = point_sets::moved_set(set, b);
     let with_sums = point_sets::both(set, &moved);
-    let after = following(words, gf2::lead(b) as usize);
-    point_sets::both(&with_sums, &after)
+    point_sets::both(&with_sums, following(gf2::lead(b) as usize))
 }
 
 // The longer of two lists; of two of one length, the first.
@@ -112,12 +116,10 @@ fn search(
     set: &[u64; SET_WORDS],
     n: usize,
     left: usize,
-    words: &[u64; FOLLOWING_WORDS],
 ) -> ShortList
     requires best_value { best ≡ short (listed best) }
     requires prefix_value { prefix ≡ short (listed prefix) }
     requires n_le_set_variables { (n ≤ set_variables) × (length (listed prefix) + left ≤ n) }
-    requires words_value { words.now ≡ following_words }
     ensures { result ≡ short (longer (listed best) (listed prefix ++ longest n left (member set.now))) }
 {
     let mut found = longer(best, prefix);
@@ -126,17 +128,18 @@ fn search(
     }
     let size = table::point_count(n);
     let mut k = point_sets::least_from(set, 1);
+    // No index is counted: k goes from each vector of the set to the next one.
     while k < size {
         if prefix.len + n - gf2::lead(k) as usize <= found.len {
             return found;
         }
-        let next = narrow(set, k, words);
+        let next = narrow(set, k);
         let first = k;
         k = point_sets::least_from(set, k + 1);
         if reach(&next, prefix.len + 1, n) <= found.len {
             continue;
         }
-        found = search(found, prefix.push(first), &next, n, left - 1, words);
+        found = search(found, prefix.push(first), &next, n, left - 1);
     }
     found
 }
@@ -147,11 +150,9 @@ pub fn largest_in(set: &[u64; SET_WORDS], n: usize) -> Basis
     requires set_value { member set.now 0 ≡ true }
     ensures { result ≡ basis_of (largest n (select (member set.now) (2 ^ n))) }
 {
-    let words = following_words();
-    let found = search(ShortList::EMPTY, ShortList::EMPTY, set, n, n, &words);
-    let vectors = found.values;
+    let ShortList { values, len } = search(ShortList::EMPTY, ShortList::EMPTY, set, n, n);
     Basis {
-        vectors,
-        len: found.len,
+        vectors: values,
+        len,
     }
 }

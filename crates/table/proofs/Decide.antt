@@ -10,8 +10,8 @@ use lib.Dec.{ltb}
 use lib.ListN.{length}
 use borrow.Author.Tests.{eq-eqb, ne_eqb, lt-ltb, le-ltb}
 use Rattle.table.specs.Refusal.{Test, test, first_fault, first_place, fault_at, Numbered, Exact, room_fault}
-use Rattle.table.specs.declared.Fault.{Fault}
-use Rattle.table.proofs.Refusal.{fault-first, no-fault, fault-append, fault-before, place-append, place-before}
+use Rattle.table.specs.Refusal.{Fault}
+use Rattle.table.proofs.FirstFault.{fault-first, no-fault, fault-append, fault-before, place-append, place-before}
 use Rattle.table.specs.Decision.{decide, front, room_after, room_test}
 
 -- ---- a decision by the number of its first fault

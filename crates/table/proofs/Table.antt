@@ -18,7 +18,7 @@ use Rattle.gf2.proofs.Logic.{clash, same, or_l, or_r, or_cases, or-none, or-fals
 use Rattle.gf2.proofs.Finite.{holds-mem, get_d-mem}
 use Rattle.table.specs.Refusal.{first_fault, Numbered}
 use Rattle.table.specs.Table.{bad_count, outside, not_above, unordered, shared, table_tests, table_fault, Accepted}
-use Rattle.table.proofs.Refusal.{no-fault, numbered}
+use Rattle.table.proofs.FirstFault.{no-fault, numbered}
 
 -- A test that is not true is false.
 pub refuted : (t : Bool) → (t ≡ true → ⊥) → t ≡ false

@@ -1,7 +1,6 @@
 -- Refusal numbers and the order of tests (document 01, "Refusal numbers"; document 02 adds the numbers from 10 on). Read next: Decision.
 use Rattle.std.specs.Prelude.{◌≡◌, Bool, true, false, cond, ◌&&◌, ◌≢◌, ◌↔◌, List, [], ◌∷◌, ◌++◌, ℕ, leb}
 use Rattle.gf2.specs.Finite.{Mem}
-use Rattle.table.specs.declared.Fault.{Fault}
 
 -- ---- the numbers, each with what is at fault; 0 is none of them
 
@@ -117,7 +116,11 @@ unfoldable pub first_place : List Test → ℕ
 first_place [] = 0
 first_place (t ∷ ts) = cond t.applies t.place (first_place ts)
 
--- A number and a place as one value, which the code hands from call to call.
+-- A number and a place as one value.
+pub record Fault : Type 0 where
+  pub number : ℕ
+  pub place : ℕ
+
 abbrev pub fault_at : ℕ → ℕ → Fault
 fault_at number place = record { number = number; place = place }
 

@@ -4,73 +4,145 @@
 
 ghost use Rattle.std.specs.Prelude.{◌≡◌, false, ◌≤◌, ◌^◌};
 ghost use Rattle.gf2.specs.Limits.{max_variables};
-ghost use Rattle.table.specs.Refusal.{has_place, fault_at};
+ghost use Rattle.table.specs.declared.Refusal.{Refusal};
+ghost use Rattle.table.specs.declared.Refusal.TheVariants.{Bytes};
+ghost use Rattle.table.specs.Refusal.{has_place};
+ghost use Rattle.table.specs.Answers.{bytes_fault_number, bytes_fault_place, number_of, place_of, refusal_number, settled};
 ghost use Rattle.table.specs.Table.{bad_count, outside, unordered, shared, table_fault};
 ghost use Rattle.table.specs.Flags.{marked, flags_of};
 
 use gf2::MAX_VARIABLES;
 
-// The refusal numbers of document 01, "Refusal numbers", and of document 02, as in specs/.
-pub const VARIABLES_FAULT: u8 = 1;
-
-pub const POINT_FAULT: u8 = 2;
-
-pub const ORDER_FAULT: u8 = 3;
-
-pub const SHARED_FAULT: u8 = 4;
-
-pub const SIZE_FAULT: u8 = 5;
-
-pub const AFFINE_FAULT: u8 = 6;
-
-pub const ROOM_FAULT: u8 = 7;
-
-pub const PLACE_FAULT: u8 = 9;
-
-pub const COUNTS_FAULT: u8 = 10;
-
-pub const FIRST_POINT_FAULT: u8 = 11;
-
-pub const EMPTY_FORM_FAULT: u8 = 12;
-
-pub const RECORDS_FAULT: u8 = 17;
-
-pub const WRONG_KIND_FAULT: u8 = 20;
-
-pub const BYTES_MISSING_FAULT: u8 = 21;
-
-pub const WRONG_VARIABLES_FAULT: u8 = 22;
-
-pub const WRONG_FACTOR_FAULT: u8 = 23;
-
-pub const NOT_CANONICAL_FAULT: u8 = 24;
-
-pub const WRONG_COUNT_FAULT: u8 = 25;
-
-pub const BYTES_AFTER_FAULT: u8 = 26;
-
-pub const TOO_MANY_PRODUCTS_FAULT: u8 = 27;
-
-// What is wrong with an input: the refusal number, 0 if none, and the byte place that goes with it (document 02, No. 3). Every call that reads bytes
-// hands it on as it is.
-#[derive(Clone, Copy)]
-pub struct Fault {
-    pub number: u8,
-    pub place: usize,
+// What is wrong with bytes, and at which byte place.
+#[derive(Clone, Copy, Debug, PartialEq, Eq)]
+pub enum BytesFault {
+    WrongKind(usize),
+    Missing(usize),
+    WrongVariables(usize),
+    WrongFactor(usize),
+    NotCanonical(usize),
+    WrongCount(usize),
+    After(usize),
+    TooMany(usize),
 }
 
-// A fault of this number at this place.
-pub fn fault_at(number: u8, place: usize) -> Fault
-    ensures { result ≡ fault_at number place }
+impl BytesFault {
+    // The refusal number.
+    pub fn number(self) -> u8
+        ensures { result ≡ bytes_fault_number self }
+    {
+        match self {
+            BytesFault::WrongKind(_) => 20,
+            BytesFault::Missing(_) => 21,
+            BytesFault::WrongVariables(_) => 22,
+            BytesFault::WrongFactor(_) => 23,
+            BytesFault::NotCanonical(_) => 24,
+            BytesFault::WrongCount(_) => 25,
+            BytesFault::After(_) => 26,
+            BytesFault::TooMany(_) => 27,
+        }
+    }
+
+    // The byte place.
+    pub fn place(self) -> usize
+        ensures { result ≡ bytes_fault_place self }
+    {
+        match self {
+            BytesFault::WrongKind(place)
+            | BytesFault::Missing(place)
+            | BytesFault::WrongVariables(place)
+            | BytesFault::WrongFactor(place)
+            | BytesFault::NotCanonical(place)
+            | BytesFault::WrongCount(place)
+            | BytesFault::After(place)
+            | BytesFault::TooMany(place) => place,
+        }
+    }
+}
+
+// Why an input is refused. `specs/Refusal.antt` says of each what is at fault.
+#[derive(Clone, Copy, Debug, PartialEq, Eq)]
+pub enum Refusal {
+    Variables,
+    Point,
+    Order,
+    Shared,
+    Size,
+    Affine,
+    Room,
+    Place,
+    Counts,
+    FirstPoint,
+    EmptyForm,
+    Records,
+    Bytes(BytesFault),
+}
+
+impl Refusal {
+    // The number that a call gives for it.
+    pub fn number(self) -> u8
+        ensures { result ≡ number_of self }
+    {
+        match self {
+            Refusal::Variables => 1,
+            Refusal::Point => 2,
+            Refusal::Order => 3,
+            Refusal::Shared => 4,
+            Refusal::Size => 5,
+            Refusal::Affine => 6,
+            Refusal::Room => 7,
+            Refusal::Place => 9,
+            Refusal::Counts => 10,
+            Refusal::FirstPoint => 11,
+            Refusal::EmptyForm => 12,
+            Refusal::Records => 17,
+            Refusal::Bytes(fault) => fault.number(),
+        }
+    }
+
+    // The byte place that a call gives for it, 0 where its number has none.
+    pub fn place(self) -> usize
+        ensures { result ≡ place_of self }
+    {
+        match self {
+            Refusal::Bytes(fault) => fault.place(),
+            _ => 0,
+        }
+    }
+}
+
+impl From<BytesFault> for Refusal {
+    ghost from_gives = { λ fault refusal. refusal ≡ Bytes fault };
+
+    fn from(fault: BytesFault) -> Refusal {
+        Refusal::Bytes(fault)
+    }
+}
+
+// The answer of a call, which has one for every refusal: its number, its place if the answer has a field for it, and 0 in all other fields.
+pub trait Answer {
+    ghost refused_with: { Refusal → Self };
+
+    fn refused(refusal: Refusal) -> Self
+        ensures { result ≡ refused_with refusal };
+}
+
+// What a call gives for what it found.
+pub fn settle<A: Answer>(found: Result<A, Refusal>) -> A
+    ensures { result ≡ settled A.refused_with found }
 {
-    Fault { number, place }
+    match found {
+        Ok(answer) => answer,
+        Err(refusal) => A::refused(refusal),
+    }
 }
 
-// The number of a refusal has a byte place.
+// The number of a refusal has a byte place. It takes the number and no `Refusal`, since a report has no more than the number.
+#[tactic(auto, unfolding(crate::specs::Refusal::has_place))]
 pub fn has_place(number: u8) -> bool
     ensures { result ≡ has_place number }
 {
-    number >= WRONG_KIND_FAULT && number <= TOO_MANY_PRODUCTS_FAULT
+    matches!(number, 20..=27)
 }
 
 // The number of points of the largest number of variables, as `max_points` in specs/.
@@ -104,28 +176,14 @@ pub fn outside(n: usize, points: &[u16]) -> bool
     ensures { result ≡ outside n points.now }
 {
     let size = point_count(n);
-    let mut i = 0;
-    while i < points.len() {
-        if points[i] >= size {
-            return true;
-        }
-        i += 1;
-    }
-    false
+    points.iter().any(|&point| point >= size)
 }
 
 // A point isn't greater than the one before it.
 pub fn unordered(points: &[u16]) -> bool
     ensures { result ≡ unordered points.now }
 {
-    let mut i = 0;
-    while i + 1 < points.len() {
-        if points[i + 1] <= points[i] {
-            return true;
-        }
-        i += 1;
-    }
-    false
+    !points.is_sorted_by(|point, next| point < next)
 }
 
 // The flags with those of the points set, and the others as they were.
@@ -133,11 +191,8 @@ pub fn mark(points: &[u16], mut flags: [bool; MAX_POINTS]) -> [bool; MAX_POINTS]
     requires { outside max_variables points.now ≡ false }
     ensures { result ≡ marked points.now flags }
 {
-    let mut i = 0;
-    while i < points.len() {
-        let p = flag_place(points[i]);
-        flags[p] = true;
-        i += 1;
+    for &point in points {
+        flags[flag_place(point)] = true;
     }
     flags
 }
@@ -158,38 +213,29 @@ pub fn shared(on: &[u16], free: &[u16]) -> bool
     ensures { result ≡ shared on.now free.now }
 {
     let flags = flags_of(on);
-    let mut i = 0;
-    while i < free.len() {
-        let p = flag_place(free[i]);
-        if flags[p] {
+    for &point in free {
+        if flags[flag_place(point)] {
             return true;
         }
-        i += 1;
     }
     false
 }
 
-// The refusal number of a table, or 0: the tests in their order, each over both lists before the next.
-pub fn table_fault(n: usize, on: &[u16], free: &[u16]) -> u8
-    ensures { result ≡ table_fault n on.now free.now }
+// The tests of a table in their order, each over both lists before the next.
+pub fn check_table(n: usize, on: &[u16], free: &[u16]) -> Result<(), Refusal>
+    ensures { refusal_number result ≡ table_fault n on.now free.now }
 {
     if bad_count(n) {
-        return VARIABLES_FAULT;
+        return Err(Refusal::Variables);
     }
-    if outside(n, on) {
-        return POINT_FAULT;
+    if outside(n, on) || outside(n, free) {
+        return Err(Refusal::Point);
     }
-    if outside(n, free) {
-        return POINT_FAULT;
-    }
-    if unordered(on) {
-        return ORDER_FAULT;
-    }
-    if unordered(free) {
-        return ORDER_FAULT;
+    if unordered(on) || unordered(free) {
+        return Err(Refusal::Order);
     }
     if shared(on, free) {
-        return SHARED_FAULT;
+        return Err(Refusal::Shared);
     }
-    0
+    Ok(())
 }

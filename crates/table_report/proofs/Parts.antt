@@ -5,13 +5,13 @@ use mathlib.Core.List.{List, [], ◌∷◌, ◌++◌, append_assoc, append-nil, 
 use Prim.Native.Nat.{ℕ, zero, suc, ◌-◌, ◌≤◌, ◌<◌}
 use native.Mathlib.Omega.{arith}
 use lib.Pow.{pow_mono}
-use lib.ListN.{length, take, length-map}
+use lib.ListN.{length, length-map}
 use borrow.Author.Tests.{lt-ltb, le-ltb}
 use Rattle.basis.specs.declared.Basis.{Basis}
 use Rattle.basis.specs.declared.ShortList.{ShortList}
 use Rattle.basis.specs.Short.{listed, short}
 use Rattle.basis.specs.Reduced.{vectors_of, BasisWithin}
-use Rattle.basis.proofs.Values.{basis-len, short-listed, short-part, short-fits}
+use Rattle.basis.proofs.Values.{basis-len, short-listed, short-fits}
 use Rattle.table.specs.Refusal.{size_fault}
 use Rattle.table.specs.Flags.{max_points}
 use Rattle.space.specs.Closure.{linear_space, degree}
@@ -40,24 +40,24 @@ use Rattle.table_report.specs.Parts.{choice_text, form_lines, function_text, Res
 
 -- A product by value is the pairs of its constants and its masks.
 module _ (r : FactorList) (fs : List Factor) (e : r ≡ factors_of fs) where
-  constants-part : take (r.constants.len - 0) r.constants.values ≡ map (λ f. f.constant) fs
-  constants-part = short-part r.constants (map (λ f. f.constant) fs) (ap (λ (x : FactorList). x.constants) e)
-
-  masks-part : take (r.masks.len - 0) r.masks.values ≡ map (λ f. f.mask) fs
-  masks-part = short-part r.masks (map (λ f. f.mask) fs) (ap (λ (x : FactorList). x.masks) e)
-
   pub constants-fit : r.constants.len ≤ length r.constants.values
   constants-fit = short-fits r.constants (map (λ f. f.constant) fs) (ap (λ (x : FactorList). x.constants) e)
 
   pub masks-fit : r.masks.len ≤ length r.masks.values
   masks-fit = short-fits r.masks (map (λ f. f.mask) fs) (ap (λ (x : FactorList). x.masks) e)
 
-  pub product-same : length (take (r.constants.len - 0) r.constants.values) ≡ length (take (r.masks.len - 0) r.masks.values)
-  product-same =
-      ap length constants-part ∙ length-map fs (λ (f : Factor). f.constant) ∙ sym (length-map fs (λ (f : Factor). f.mask)) ∙ sym (ap length masks-part)
+  module _ (constants masks : List ℕ) (c : constants ≡ listed r.constants) (m : masks ≡ listed r.masks) where
+    constants-are : constants ≡ map (λ f. f.constant) fs
+    constants-are = c ∙ short-listed r.constants (map (λ f. f.constant) fs) (ap (λ (x : FactorList). x.constants) e)
 
-  pub product-zip : zip_with factor (take (r.constants.len - 0) r.constants.values) (take (r.masks.len - 0) r.masks.values) ≡ fs
-  product-zip = rw (constants-part, masks-part) (zip-back fs)
+    masks-are : masks ≡ map (λ f. f.mask) fs
+    masks-are = m ∙ short-listed r.masks (map (λ f. f.mask) fs) (ap (λ (x : FactorList). x.masks) e)
+
+    pub product-same : length constants ≡ length masks
+    product-same = ap length constants-are ∙ length-map fs (λ (f : Factor). f.constant) ∙ sym (length-map fs (λ (f : Factor). f.mask)) ∙ sym (ap length masks-are)
+
+    pub product-zip : zip_with factor constants masks ≡ fs
+    product-zip = rw (constants-are, masks-are) (zip-back fs)
 
 -- The lines of a choice, one prime at a time.
 flat-last : (f : List Factor → List ℕ) (l : List (List Factor)) (a : List Factor) → flat_map f (l ++ (a ∷ [])) ≡ flat_map f l ++ f a

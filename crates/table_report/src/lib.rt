@@ -1,4 +1,4 @@
-// The report of a table, written into lent bytes (document 01, "The printed report"). Read next: specs/Text.antt.
+// The report of a table, written behind what a writer has written. Read next: specs/Text.antt.
 #![tactic(auto)]
 
 ghost use Rattle.std.specs.Prelude.{◌≡◌, ◌≤◌};
@@ -9,177 +9,135 @@ ghost use Rattle.basis.specs.Reduced.{vectors_of, BasisWithin};
 ghost use Rattle.table.specs.Table.{Accepted};
 ghost use Rattle.space.specs.Restriction.{equations, restriction};
 ghost use Rattle.space.specs.Witness.{flagged};
-ghost use Rattle.bases.specs.Entry.{candidate_at, EntryAt};
 ghost use Rattle.cover.specs.WrittenForm.{product_by};
+ghost use Rattle.choice.specs.Search.{candidate_of, PrimeAt};
 ghost use Rattle.choice.specs.Chosen.{IsChoice};
-ghost use Rattle.text.specs.Writing.{HasRoom, Wrote};
+ghost use Rattle.text.specs.Writing.{Fits, with_text};
 ghost use Rattle.lines.specs.Words.{canonical_word};
 ghost use Rattle.lines.specs.Lines.{numbers_line, equation_lines, product_line};
 ghost use Rattle.table_report.specs.Text.{is_simple, space_text, table_text};
 ghost use Rattle.table_report.specs.Parts.{choice_text, form_lines, function_text, Restricts};
 
 use basis::{Basis, ShortList};
-use choice::Choice;
+use choice::{Choice, Prime};
 use cubes::MAX_LISTED;
 use space::MAX_SEARCHED;
-use table::{MAX_POINTS, SIZE_FAULT};
+use table::{MAX_POINTS, Refusal};
+use text::Writer;
 
 // ---- the products
 
 // The line of one prime that was chosen: its product, with the equations put in.
-fn chosen_line(
-    room: &mut [u8],
-    at: usize,
-    n: usize,
-    equations: ShortList,
-    m: usize,
-    d: usize,
-    point: u16,
-    entry: u64,
-) -> usize
+fn chosen_line(out: &mut Writer<'_>, n: usize, equations: ShortList, m: usize, prime: Prime)
     requires n_le_max_variables { n ≤ max_variables }
     requires equations_value { equations ≡ short (listed equations) }
-    requires entry_at { EntryAt m d point entry }
-    requires has_room { HasRoom room.old at (product_line n (product_by (listed equations) m (candidate_at d point entry))) }
-    ensures { Wrote room.old at (product_line n (product_by (listed equations) m (candidate_at d point entry))) room.new result }
+    requires prime_at { PrimeAt m prime }
+    requires fits { Fits out.old (product_line n (product_by (listed equations) m (candidate_of prime))) }
+    ensures { out.new ≡ with_text out.old (product_line n (product_by (listed equations) m (candidate_of prime))) }
 {
-    let product = factors::product_of(equations, m, d, point, entry);
-    let constants = product.constants;
-    let masks = product.masks;
-    let parities = constants.values;
-    let variables = masks.values;
-    let count = constants.len;
-    let len = masks.len;
-    lines::product_line(&mut *room, at, n, &parities[0..count], &variables[0..len])
+    let product = factors::product_of(equations, m, prime);
+    lines::product_line(
+        out,
+        n,
+        product.constants.as_slice(),
+        product.masks.as_slice(),
+    );
 }
 
 // The lines of the primes that were chosen, in the order taken.
-fn choice_text(
-    room: &mut [u8],
-    at: usize,
-    n: usize,
-    equations: ShortList,
-    m: usize,
-    choice: Choice,
-) -> usize
+fn choice_text(out: &mut Writer<'_>, n: usize, equations: ShortList, m: usize, choice: &Choice)
     requires n_le_max_variables { n ≤ max_variables }
     requires equations_value { equations ≡ short (listed equations) }
-    requires choice { IsChoice m choice }
-    requires has_room { HasRoom room.old at (choice_text n (listed equations) m choice) }
-    ensures { Wrote room.old at (choice_text n (listed equations) m choice) room.new result }
+    requires choice { IsChoice m choice.now }
+    requires fits { Fits out.old (choice_text n (listed equations) m choice.now) }
+    ensures { out.new ≡ with_text out.old (choice_text n (listed equations) m choice.now) }
 {
-    let degrees = choice.degrees;
-    let points = choice.points;
-    let entries = choice.entries;
-    let count = choice.count;
-    let mut next = at;
-    let mut i = 0;
-    while i < count {
-        next = chosen_line(
-            &mut *room, next, n, equations, m, degrees[i], points[i], entries[i],
-        );
-        i += 1;
+    for &prime in choice.as_slice() {
+        chosen_line(out, n, equations, m, prime);
     }
-    next
 }
 
 // The lines of the form, by the points of the restriction: `refused 5`, or the products.
-fn form_lines(room: &mut [u8], at: usize, n: usize, basis: Basis, points: &[u16]) -> usize
+fn form_lines(out: &mut Writer<'_>, n: usize, basis: Basis, points: &[u16])
     requires restricts { Restricts n basis points.now }
-    requires has_room { HasRoom room.old at (form_lines n (vectors_of basis) points.now) }
-    ensures { Wrote room.old at (form_lines n (vectors_of basis) points.now) room.new result }
+    requires fits { Fits out.old (form_lines n (vectors_of basis) points.now) }
+    ensures { out.new ≡ with_text out.old (form_lines n (vectors_of basis) points.now) }
 {
     let m = n - basis.len;
     if m > MAX_LISTED {
-        return lines::number_line(&mut *room, at, b"refused ", SIZE_FAULT as usize);
+        lines::number_line(out, b"refused ", Refusal::Size.number() as usize);
+        return;
     }
     let choice = choice::choose(m, points);
     let equations = projection::equations(basis, n);
-    choice_text(&mut *room, at, n, equations, m, choice)
+    choice_text(out, n, equations, m, &choice);
 }
 
 // ---- the space
 
 // The line of the canonical variables.
-fn canonical_line(room: &mut [u8], at: usize, n: usize, basis: Basis) -> usize
+fn canonical_line(out: &mut Writer<'_>, n: usize, basis: Basis)
     requires basis_within { BasisWithin n basis }
-    requires has_room { HasRoom room.old at (numbers_line canonical_word (variables_at n (canonical_places n (vectors_of basis)))) }
-    ensures { Wrote room.old at (numbers_line canonical_word (variables_at n (canonical_places n (vectors_of basis)))) room.new result }
+    requires fits { Fits out.old (numbers_line canonical_word (variables_at n (canonical_places n (vectors_of basis)))) }
+    ensures { out.new ≡ with_text out.old (numbers_line canonical_word (variables_at n (canonical_places n (vectors_of basis)))) }
 {
     let canonical = basis.canonical(n);
-    let len = canonical.len;
-    let values = canonical.values;
-    lines::numbers_line(&mut *room, at, b"canonical", &values[0..len])
+    lines::numbers_line(out, b"canonical", canonical.as_slice());
 }
 
 // The lines of the reduction equations.
-fn equations_text(room: &mut [u8], at: usize, n: usize, basis: Basis) -> usize
+fn equations_text(out: &mut Writer<'_>, n: usize, basis: Basis)
     requires basis_within { BasisWithin n basis }
-    requires has_room { HasRoom room.old at (equation_lines n 1 (equations n (vectors_of basis))) }
-    ensures { Wrote room.old at (equation_lines n 1 (equations n (vectors_of basis))) room.new result }
+    requires fits { Fits out.old (equation_lines n 1 (equations n (vectors_of basis))) }
+    ensures { out.new ≡ with_text out.old (equation_lines n 1 (equations n (vectors_of basis))) }
 {
     let equations = projection::equations(basis, n);
-    let len = equations.len;
-    let values = equations.values;
-    lines::equation_lines(&mut *room, at, n, &values[0..len])
+    lines::equation_lines(out, n, equations.as_slice());
 }
 
-// Degree, canonical variables, reduction equations, restriction.
-fn space_text(
-    room: &mut [u8],
-    at: usize,
-    n: usize,
-    simple: bool,
-    basis: Basis,
-    points: &[u16],
-) -> usize
+// Degree, canonical variables, reduction equations, restriction. Whether the degree is that of the simple way is printed, and switches no step.
+#[tactic(auto, unfolding(crate::specs::Text::space_text), using(text::proofs::Writing::parts))]
+fn space_text(out: &mut Writer<'_>, n: usize, simple: bool, basis: Basis, points: &[u16])
     requires basis_within { BasisWithin n basis }
-    requires has_room { HasRoom room.old at (space_text n simple (vectors_of basis) points.now) }
-    ensures { Wrote room.old at (space_text n simple (vectors_of basis) points.now) room.new result }
+    requires fits { Fits out.old (space_text n simple (vectors_of basis) points.now) }
+    ensures { out.new ≡ with_text out.old (space_text n simple (vectors_of basis) points.now) }
 {
-    let next = lines::degree_line(&mut *room, at, simple, basis.degree());
-    let middle = canonical_line(&mut *room, next, n, basis);
-    let last = equations_text(&mut *room, middle, n, basis);
-    lines::numbers_line(&mut *room, last, b"restriction", points)
+    lines::degree_line(out, simple, basis.degree());
+    canonical_line(out, n, basis);
+    equations_text(out, n, basis);
+    lines::numbers_line(out, b"restriction", points);
 }
 
 // ---- the table
 
 // All lines of the completed function, by the points of its restriction.
-fn function_text(
-    room: &mut [u8],
-    at: usize,
-    n: usize,
-    simple: bool,
-    basis: Basis,
-    points: &[u16],
-) -> usize
+#[tactic(auto, unfolding(crate::specs::Parts::function_text), using(text::proofs::Writing::parts))]
+fn function_text(out: &mut Writer<'_>, n: usize, simple: bool, basis: Basis, points: &[u16])
     requires restricts { Restricts n basis points.now }
-    requires has_room { HasRoom room.old at (function_text n simple (vectors_of basis) points.now) }
-    ensures { Wrote room.old at (function_text n simple (vectors_of basis) points.now) room.new result }
+    requires fits { Fits out.old (function_text n simple (vectors_of basis) points.now) }
+    ensures { out.new ≡ with_text out.old (function_text n simple (vectors_of basis) points.now) }
 {
-    let next = space_text(&mut *room, at, n, simple, basis, points);
-    form_lines(&mut *room, next, n, basis, points)
+    space_text(out, n, simple, basis, points);
+    form_lines(out, n, basis, points);
 }
 
-// The same by the flags of the function.
+// The same by the flags of the function, which give the points: the step before, and no twin.
 fn flags_text(
-    room: &mut [u8],
-    at: usize,
+    out: &mut Writer<'_>,
     n: usize,
     simple: bool,
     flags: &[bool; MAX_POINTS],
     basis: Basis,
-) -> usize
+)
     requires basis_within { BasisWithin n basis }
-    requires has_room { HasRoom room.old at (function_text n simple (vectors_of basis) (restriction n (vectors_of basis) (flagged flags.now))) }
-    ensures { Wrote room.old at (function_text n simple (vectors_of basis) (restriction n (vectors_of basis) (flagged flags.now))) room.new result }
+    requires fits { Fits out.old (function_text n simple (vectors_of basis) (restriction n (vectors_of basis) (flagged flags.now))) }
+    ensures { out.new ≡ with_text out.old (function_text n simple (vectors_of basis) (restriction n (vectors_of basis) (flagged flags.now))) }
 {
     let leads = basis.leads();
     let count = projection::count_kept(flags, leads, n);
     let mut points = [0u16; MAX_POINTS];
     projection::write_kept(flags, leads, n, &mut points);
-    function_text(&mut *room, at, n, simple, basis, &points[0..count])
+    function_text(out, n, simple, basis, &points[0..count]);
 }
 
 // The degree is that of the simple way, and free points exist.
@@ -187,19 +145,19 @@ fn flags_text(
 fn is_simple(n: usize, free: &[u16]) -> bool
     ensures { result ≡ is_simple n free.now }
 {
-    n > MAX_SEARCHED && free.len() > 0
+    n > MAX_SEARCHED && !free.is_empty()
 }
 
 // The report of an accepted table.
-pub fn table_text(room: &mut [u8], at: usize, n: usize, on: &[u16], free: &[u16]) -> usize
+pub fn table_text(out: &mut Writer<'_>, n: usize, on: &[u16], free: &[u16])
     requires accepted { Accepted n on.now free.now }
-    requires has_room { HasRoom room.old at (table_text n on.now free.now) }
-    ensures { Wrote room.old at (table_text n on.now free.now) room.new result }
+    requires fits { Fits out.old (table_text n on.now free.now) }
+    ensures { out.new ≡ with_text out.old (table_text n on.now free.now) }
 {
-    let next = lines::number_line(&mut *room, at, b"variables ", n);
-    let rest = lines::counts_line(&mut *room, next, on.len(), free.len());
+    lines::number_line(out, b"variables ", n);
+    lines::counts_line(out, on.len(), free.len());
     let simple = is_simple(n, free);
     let completed = space::complete(n, on, free);
     let flags = completed.flags;
-    flags_text(&mut *room, rest, n, simple, &flags, completed.basis)
+    flags_text(out, n, simple, &flags, completed.basis);
 }

@@ -1,13 +1,10 @@
 -- A text made of pieces, one for each place of a list, and that the texts of specs.Pieces are made so. Read next: Writing.
 use mathlib.Core.Path.{◌≡◌, refl, sym, ap, ◌∙◌}
-use mathlib.Core.Bool.{cond}
 use mathlib.Core.List.{List, [], ◌∷◌, ◌++◌, append_assoc, append-nil, flat_map}
 use Prim.Native.Nat.{ℕ, zero, suc, ◌≤◌, ◌<◌}
 use native.Mathlib.Decide.{ℕ_discrete}
 use native.Mathlib.Omega.{arith}
-use lib.Dec.{eqb}
 use lib.ListN.{length, get_or, length-append}
-use borrow.Author.Tests.{ne_eqb}
 use Rattle.text.specs.Pieces.{spaced_number, spaced, name, names}
 
 -- The first k pieces, one after the other.
@@ -50,15 +47,10 @@ pub spaced-pieces : (ps : List ℕ) → spaced ps ≡ pieces (spaced_at ps) (len
 unfolding spaced
 spaced-pieces ps = flat-pieces spaced_number 0 ps
 
--- The name at a place of a list, after the text between two unless it is the first.
+-- The name at a place of a list, after the text between two.
 abbrev pub next_name : List ℕ → List ℕ → ℕ → List ℕ
-next_name between indices i = cond (eqb i 0) [] between ++ name (get_or indices i 0)
+next_name between rest i = between ++ name (get_or rest i 0)
 
-pub names-pieces : (between indices : List ℕ) → names between indices ≡ pieces (next_name between indices) (length indices)
+pub names-pieces : (between : List ℕ) (index : ℕ) (rest : List ℕ) → names between (index ∷ rest) ≡ name index ++ pieces (next_name between rest) (length rest)
 unfolding names
-names-pieces between [] = refl
-names-pieces between (index ∷ rest) =
-    ap (λ (r : List ℕ). name index ++ r) (flat-pieces (λ other. between ++ name other) 0 rest)
-    ∙ ap (λ (r : List ℕ). name index ++ r)
-    (pieces-same (λ i. between ++ name (get_or rest i 0)) (λ i. next_name between (index ∷ rest) (suc i)) (length rest) (λ i. rw (ne_eqb (suc i) 0 (λ q. omega arith))))
-    ∙ sym (pieces-front (next_name between (index ∷ rest)) (length rest))
+names-pieces between index rest = ap (λ (r : List ℕ). name index ++ r) (flat-pieces (λ other. between ++ name other) 0 rest)

@@ -13,7 +13,7 @@ use Rattle.walk.specs.Places.{lower_degrees, from_point}
 
 -- ---- the points
 
-points-length : (k : ℕ) → length (select (λ p. true) k) ≡ k
+pub points-length : (k : ℕ) → length (select (λ p. true) k) ≡ k
 unfolding select
 points-length zero = refl
 points-length (suc k) = omega (arith, length-append (select (λ p. true) k) (k ∷ []), points-length k)
@@ -27,7 +27,7 @@ point_at (suc k) p h = go (ℕ_discrete p k) (point_at k p)
     go (yes e) f = ap (λ (z : ℕ). get_or (select (λ p. true) k ++ (k ∷ [])) z 0) (e ∙ sym (points-length k)) ∙ get_or-append_seam (select (λ p. true) k) k [] 0 ∙ sym e
     go (no m) f = get_or-append (select (λ p. true) k) (k ∷ []) 0 p (omega (arith, points-length k)) ∙ f (omega arith)
 
-points-cons : (n p : ℕ) → p < 2 ^ n → drop p (points n) ≡ p ∷ drop (suc p) (points n)
+pub points-cons : (n p : ℕ) → p < 2 ^ n → drop p (points n) ≡ p ∷ drop (suc p) (points n)
 points-cons n p h = drop-cons (points n) p 0 (omega (arith, points-length (2 ^ n))) ∙ ap (λ (z : ℕ). z ∷ drop (suc p) (points n)) (point_at (2 ^ n) p h)
 
 -- ---- the candidates from a point on

@@ -12,24 +12,24 @@ use borrow.Author.Tests.{lt-ltb, le-ltb, ltb-false, eq-eqb, ne_eqb}
 use Rattle.cubes.specs.Cubes.{Candidate}
 use Rattle.cubes.specs.Records.{record_length}
 use Rattle.walk.specs.declared.Tally.{Tally}
-use Rattle.walk.specs.Walk.{passing, writing, stopping, State, state, pass, walk}
+use Rattle.walk.specs.Walk.{passing, writing, State, going_on, stopping, pass, walk}
 
 module _ (prime : Candidate → Bool) (recorded : Candidate → List ℕ) (c : Candidate) (t : Tally) (m : List ℕ) where
-  pub pass_spent : t.left ≡ 0 → state (stopping t) m ≡ pass prime recorded c (state t m)
+  pub pass_spent : t.left ≡ 0 → stopping t m ≡ pass prime recorded c (going_on t m)
   unfolding pass
   pass_spent e = rw (eq-eqb t.left 0 e)
 
   module _ (l : t.left ≢ 0) where
-    pub pass-off : prime c ≡ false → state (passing t) m ≡ pass prime recorded c (state t m)
+    pub pass-off : prime c ≡ false → going_on (passing t) m ≡ pass prime recorded c (going_on t m)
     unfolding pass
     pass-off e = rw (ne_eqb t.left 0 l, e)
 
-    pub pass-full : prime c ≡ true → length m < record_length * t.written + record_length → state (stopping t) m ≡ pass prime recorded c (state t m)
+    pub pass-full : prime c ≡ true → length m < record_length * t.written + record_length → stopping t m ≡ pass prime recorded c (going_on t m)
     unfolding pass
     pass-full e f = rw (ne_eqb t.left 0 l, e, lt-ltb (length m) (record_length * t.written + record_length) f)
 
     pub pass-write : prime c ≡ true → record_length * t.written + record_length ≤ length m
-        → state (writing t) (sets m (record_length * t.written) (recorded c)) ≡ pass prime recorded c (state t m)
+        → going_on (writing t) (sets m (record_length * t.written) (recorded c)) ≡ pass prime recorded c (going_on t m)
     unfolding pass
     pass-write e f = rw (ne_eqb t.left 0 l, e, le-ltb (length m) (record_length * t.written + record_length) f)
 
@@ -43,10 +43,10 @@ unfolding pass
 pass_kept prime recorded c long s k = go (eqb s.tally.left 0) (prime c) (ltb (length s.room) (record_length * s.tally.written + record_length)) refl
   where
     go : (b e f : Bool) → ltb (length s.room) (record_length * s.tally.written + record_length) ≡ f
-        → Kept long (cond b (state (stopping s.tally) s.room)
+        → Kept long (cond b (stopping s.tally s.room)
         (cond e
-        (cond f (state (stopping s.tally) s.room) (state (writing s.tally) (sets s.room (record_length * s.tally.written) (recorded c))))
-        (state (passing s.tally) s.room)))
+        (cond f (stopping s.tally s.room) (going_on (writing s.tally) (sets s.room (record_length * s.tally.written) (recorded c))))
+        (going_on (passing s.tally) s.room)))
     go true e f q = record { keeps = k.keeps; wrote = k.wrote }
     go false false f q = record { keeps = k.keeps; wrote = k.wrote }
     go false true true q = record { keeps = k.keeps; wrote = k.wrote }
@@ -57,10 +57,10 @@ pass_kept prime recorded c long s k = go (eqb s.tally.left 0) (prime c) (ltb (le
 
 -- The walk goes on after a candidate, or stops.
 module _ (prime : Candidate → Bool) (recorded : Candidate → List ℕ) (c : Candidate) (cs : List Candidate) (s u : State) (e : u ≡ pass prime recorded c s) where
-  pub walk-on : u.tally.stopped ≡ false → walk prime recorded (c ∷ cs) s ≡ walk prime recorded cs u
+  pub walk-on : u.stopped ≡ false → walk prime recorded (c ∷ cs) s ≡ walk prime recorded cs u
   unfolding walk
-  walk-on h = ap (λ (z : State). cond z.tally.stopped z (walk prime recorded cs z)) (sym e) ∙ ap (λ (b : Bool). cond b u (walk prime recorded cs u)) h
+  walk-on h = ap (λ (z : State). cond z.stopped z (walk prime recorded cs z)) (sym e) ∙ ap (λ (b : Bool). cond b u (walk prime recorded cs u)) h
 
-  pub walk-stop : u.tally.stopped ≡ true → walk prime recorded (c ∷ cs) s ≡ u
+  pub walk-stop : u.stopped ≡ true → walk prime recorded (c ∷ cs) s ≡ u
   unfolding walk
-  walk-stop h = ap (λ (z : State). cond z.tally.stopped z (walk prime recorded cs z)) (sym e) ∙ ap (λ (b : Bool). cond b u (walk prime recorded cs u)) h
+  walk-stop h = ap (λ (z : State). cond z.stopped z (walk prime recorded cs z)) (sym e) ∙ ap (λ (b : Bool). cond b u (walk prime recorded cs u)) h

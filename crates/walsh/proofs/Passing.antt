@@ -2,7 +2,7 @@
 use mathlib.Core.Path.{◌≡◌, refl, sym, ap, ap₂, ◌∙◌, subst}
 use mathlib.Core.List.{List, ◌++◌}
 use Prim.Native.Nat.{ℕ, suc, ◌+◌, ◌-◌, ◌*◌, ◌≤◌, ◌<◌}
-use native.Mathlib.Nat.{le_of_suc-le-suc, lt_of_not-le, mul-le-mul_right, suc-mul, zero-mul}
+use native.Mathlib.Nat.{le_of_suc-le-suc, lt_of_not-le, mul-le-mul_right, suc-mul}
 use borrow.Rule.Slice.PartMut.{post_of, put_mid, same_len_mid, take_put, drop_put}
 use native.Mathlib.Decide.{dec_le, ℕ_discrete}
 use native.Mathlib.Omega.{arith}
@@ -55,15 +55,6 @@ pub record Passing (q : ℕ) (xs : List ℤ) (s : ℕ) (ys : List ℤ) : Type 0 
   pub start : s ≡ behind * (4 * q)
   pub done : (b : ℕ) → b < behind → (u : ℕ) → u < q → FourCross q (from (b * (4 * q)) xs) (from (b * (4 * q)) ys) u
   pub left : (p : ℕ) → s ≤ p → at ys p ≡ at xs p
-
-pub passing-start : (q : ℕ) (xs : List ℤ) → Passing q xs 0 xs
-passing-start q xs = record {
-  long = refl;
-  behind = 0;
-  start = sym (zero-mul (4 * q));
-  done = λ b h. absurd (omega arith);
-  left = λ p h. refl;
-}
 
 -- Where one block begins inside the list, it ends there, too.
 fits_whole : (b c m : ℕ) → b * m < c * m → b * m + m ≤ c * m

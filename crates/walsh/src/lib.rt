@@ -23,10 +23,8 @@ fn cross_halves(numbers: &mut [i64], half: usize)
     requires summable { Summable 2 numbers.old }
     ensures { Halved half numbers.old numbers.new }
 {
-    let mut u = 0;
-    while u < half {
+    for u in 0..half {
         cross_pair(&mut *numbers, u, half);
-        u += 1;
     }
 }
 
@@ -58,10 +56,8 @@ fn cross_quarters(numbers: &mut [i64], quarter: usize)
     requires summable { Summable 4 numbers.old }
     ensures { Quartered quarter numbers.old numbers.new }
 {
-    let mut u = 0;
-    while u < quarter {
+    for u in 0..quarter {
         cross_four(&mut *numbers, u, quarter);
-        u += 1;
     }
 }
 
@@ -71,11 +67,8 @@ fn pass(numbers: &mut [i64], quarter: usize)
     ensures { Passed quarter numbers.old numbers.new }
 {
     let block = 4 * quarter;
-    let mut start = 0;
-    while start < numbers.len() {
-        let end = start + block;
-        cross_quarters(&mut numbers[start..end], quarter);
-        start = end;
+    for start in (0..numbers.len()).step_by(block) {
+        cross_quarters(&mut numbers[start..start + block], quarter);
     }
 }
 
@@ -93,14 +86,14 @@ fn first_pass(numbers: &mut [i64], n: usize) -> usize
     half
 }
 
-// The transform of the numbers of n variables, in place.
+// The transform of the numbers of n variables, in place. No range of a `for` gives the block sizes, each a quarter of the one before.
 pub fn transform(numbers: &mut [i64], n: usize)
     requires { Transformable n numbers.old }
     ensures { Transformed n numbers.old numbers.new }
 {
     let mut block = first_pass(&mut *numbers, n);
     while block > 1 {
-        block = block / 4;
+        block /= 4;
         pass(&mut *numbers, block);
     }
 }

@@ -4,7 +4,7 @@ use mathlib.Core.List.{List, [], ◌∷◌, ◌++◌}
 use Prim.Native.Nat.{ℕ, zero, suc, ◌+◌, ◌*◌, ◌-◌, ◌≤◌, ◌<◌}
 use native.Mathlib.Decide.{ℕ_discrete}
 use native.Mathlib.Omega.{arith}
-use lib.ListN.{length, set, get_or, length-append}
+use lib.ListN.{length, set, length-append}
 use lib.Seq.{sets}
 use Rattle.records.specs.Kinds.{variables_kind, encode_end}
 use Rattle.table.specs.Decision.{front}
@@ -12,7 +12,8 @@ use Rattle.form.specs.Encoding.{encode_products, encode_form}
 use Rattle.cubes.specs.Records.{max_listed}
 use Rattle.bases.proofs.Entry.{vectors-length, entry-candidate}
 use Rattle.choice.specs.declared.Choice.{Choice}
-use Rattle.choice.specs.Chosen.{chosen_at, chosen_by, products_by, IsChoice}
+use Rattle.choice.specs.declared.Prime.{Prime}
+use Rattle.choice.specs.Chosen.{prime_in, chosen_at, chosen_by, products_by, IsChoice}
 use Rattle.choice.proofs.Products.{product_at, products-next, products-count}
 use Rattle.factors.proofs.Products.{product-factors}
 use Rattle.writing.specs.Products.{products_length, form_length}
@@ -22,20 +23,20 @@ use Rattle.writing.proofs.Bytes.{products-append, product-bytes}
 -- ---- the lengths alone
 
 -- More products take more bytes.
-pub lengths-grow : (m : ℕ) (degrees : List ℕ) (i k : ℕ) → i ≤ k → products_length m degrees i ≤ products_length m degrees k
+pub lengths-grow : (m : ℕ) (primes : List Prime) (i k : ℕ) → i ≤ k → products_length m primes i ≤ products_length m primes k
 unfolding products_length
-lengths-grow m degrees i zero h = let q : i ≡ 0 = omega arith in rw q (omega arith)
-lengths-grow m degrees i (suc k) h = go (ℕ_discrete i (suc k)) (lengths-grow m degrees i k)
+lengths-grow m primes i zero h = let q : i ≡ 0 = omega arith in rw q (omega arith)
+lengths-grow m primes i (suc k) h = go (ℕ_discrete i (suc k)) (lengths-grow m primes i k)
   where
-    go : Dec (i ≡ suc k) → (i ≤ k → products_length m degrees i ≤ products_length m degrees k) → products_length m degrees i ≤ products_length m degrees (suc k)
+    go : Dec (i ≡ suc k) → (i ≤ k → products_length m primes i ≤ products_length m primes k) → products_length m primes i ≤ products_length m primes (suc k)
     go (yes q) f = rw q (omega arith)
     go (no q) f = omega (arith, f (omega arith))
 
 -- At most 25 bytes each.
-pub lengths-few : (m : ℕ) (degrees : List ℕ) (k : ℕ) → (0 < k → m ≤ max_listed) → products_length m degrees k ≤ 25 * k
+pub lengths-few : (m : ℕ) (primes : List Prime) (k : ℕ) → (0 < k → m ≤ max_listed) → products_length m primes k ≤ 25 * k
 unfolding products_length
-lengths-few m degrees zero h = omega arith
-lengths-few m degrees (suc k) h = omega (arith, h (omega arith), lengths-few m degrees k (λ p. h (omega arith)))
+lengths-few m primes zero h = omega arith
+lengths-few m primes (suc k) h = omega (arith, h (omega arith), lengths-few m primes k (λ p. h (omega arith)))
 
 -- ---- the products of a choice
 
@@ -44,11 +45,11 @@ module _ (es : List ℕ) (m : ℕ) (r : Choice) where
   bytes_next i = ap encode_products (products-next es m r i) ∙ products-append (products_by es m r i) (product_at es m r i ∷ [])
 
   module _ (h : IsChoice m r) where
-    pub product-length-at : (i : ℕ) → i < r.count → length (product_at es m r i) ≡ m - get_or r.degrees i 0
+    pub product-length-at : (i : ℕ) → i < r.count → length (product_at es m r i) ≡ m - (prime_in r i).degree
     product-length-at i l =
-        product-factors es m (chosen_at r i) (entry-candidate (h.entry i l)) ∙ ap (λ (z : ℕ). m - z) (vectors-length (get_or r.degrees i 0) (get_or r.entries i 0))
+        product-factors es m (chosen_at r i) (entry-candidate (h.entry i l)) ∙ ap (λ (z : ℕ). m - z) (vectors-length (prime_in r i).degree (prime_in r i).entry)
 
-    pub products-length : (k : ℕ) → k ≤ r.count → length (encode_products (products_by es m r k)) ≡ products_length m r.degrees k
+    pub products-length : (k : ℕ) → k ≤ r.count → length (encode_products (products_by es m r k)) ≡ products_length m r.primes k
     unfolding products_length products_by chosen_by encode_products
     products-length zero l = refl
     products-length (suc k) l =
@@ -70,7 +71,7 @@ module _ (es : List ℕ) (m : ℕ) (r : Choice) where
     )
 
     -- The records of a form stored one behind the other are the form at the front of the room.
-    pub form-stored : (n at : ℕ) (room after last : List ℕ) → at ≡ 2 + products_length m r.degrees r.count → form_length m r ≤ length room
+    pub form-stored : (n at : ℕ) (room after last : List ℕ) → at ≡ 2 + products_length m r.primes r.count → form_length m r ≤ length room
         → after ≡ sets (set (set room 0 variables_kind) 1 n) 2 (encode_products (products_by es m r r.count)) → last ≡ sets after at (encode_end r.count)
         → last ≡ front (encode_form (record { variables = n; products = products_by es m r r.count })) room
     unfolding encode_form

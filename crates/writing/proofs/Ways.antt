@@ -12,7 +12,7 @@ use Rattle.basis.specs.Reduced.{vectors_of}
 use Rattle.table.specs.Refusal.{test, first_fault, Numbered, size_fault}
 use Rattle.table.specs.Decision.{front}
 use Rattle.table.specs.Table.{table_tests, table_fault}
-use Rattle.table.proofs.Refusal.{numbered}
+use Rattle.table.proofs.FirstFault.{numbered}
 use Rattle.table.proofs.Decide.{table-refused, then-applies, then-none, Ways, ways}
 use Rattle.table.proofs.Table.{table-numbered}
 use Rattle.space.specs.declared.Completed.{Completed}

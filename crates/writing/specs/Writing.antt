@@ -1,6 +1,8 @@
 -- The call that writes the form of a table: its refusals in their order, its answer, and the bytes of its lent room
 -- (document 01, "The written form" and "Refusal numbers"). What form is written is crate `cover`'s `written_form`. Read next: crate `text`.
 use Rattle.std.specs.Prelude.{List, [], ◌∷◌, ◌++◌, ℕ, length}
+use Rattle.table.specs.declared.Refusal.{Refusal}
+use Rattle.table.specs.Answers.{number_of}
 use Rattle.table.specs.Refusal.{Test, test, size_fault}
 use Rattle.table.specs.Decision.{Decision, answer_of, after_of, room_test}
 use Rattle.table.specs.Table.{table_tests}
@@ -27,6 +29,9 @@ write_accepted n on free = record { refusal = 0; length = length (form_bytes n o
 -- A refusal returns its number with all other numbers 0.
 abbrev pub write_refused : ℕ → FormWritten
 write_refused number = record { refusal = number; length = 0; products = 0 }
+
+abbrev pub refused_form : Refusal → FormWritten
+refused_form refusal = write_refused (number_of refusal)
 
 -- The call, and the numbers that it returns.
 abbrev pub write_call : ℕ → List ℕ → List ℕ → List ℕ → Decision FormWritten

@@ -7,6 +7,7 @@ ghost use Rattle.std.proofs.lemmas.List.Edits.{sets};
 ghost use Rattle.gf2.specs.Limits.{max_variables};
 ghost use Rattle.basis.specs.Short.{listed, short};
 ghost use Rattle.basis.specs.Reduced.{vectors_of, BasisWithin};
+ghost use Rattle.table.specs.Answers.{settled};
 ghost use Rattle.table.specs.Decision.{front};
 ghost use Rattle.space.specs.Restriction.{restriction};
 ghost use Rattle.space.specs.Witness.{flagged};
@@ -16,7 +17,7 @@ ghost use Rattle.form.specs.Encoding.{encode_factors, encode_products, encode_fo
 ghost use Rattle.choice.specs.Chosen.{products_by, IsChoice, Chose};
 ghost use Rattle.factors.specs.Factors.{product_in, IsProduct};
 ghost use Rattle.writing.specs.Products.{product_length, products_length, form_length};
-ghost use Rattle.writing.specs.Writing.{write_refused, write_answer, write_after};
+ghost use Rattle.writing.specs.Writing.{refused_form, write_answer, write_after};
 
 use basis::{Basis, ShortList};
 use choice::{Choice, MAX_CHOSEN};
@@ -24,9 +25,10 @@ use cubes::MAX_LISTED;
 use factors::FactorList;
 use form::{FACTOR_LENGTH, FIRST_PRODUCT};
 use records::WORD_RECORD_LENGTH;
-use table::{MAX_POINTS, ROOM_FAULT, SIZE_FAULT};
+use table::{Answer, MAX_POINTS, Refusal};
 
-// What writing the form of a table gives: the refusal or 0, how many bytes are written, and how many products the form has.
+// What writing the form of a table gives: the refusal or 0, how many bytes are written, and how many products the form has. C reads the
+// refusal as its number.
 #[repr(C)]
 #[derive(Clone, Copy)]
 pub struct FormWritten {
@@ -55,67 +57,51 @@ fn put_product(room: &mut [u8], at: usize, factors: FactorList) -> usize
     ensures value { result ≡ at + product_length (length (product_in factors)) }
     ensures room_after { room.new ≡ sets room.old at (encode_products (product_in factors ∷ [])) }
 {
-    let constants = factors.constants;
-    let masks = factors.masks;
-    let parities = constants.values;
-    let variables = masks.values;
-    let len = masks.len;
+    let constants = factors.constants.as_slice();
     room[at] = records::PRODUCT_KIND;
     let mut place = at + 1;
-    let mut i = 0;
-    while i < len {
-        put_factor(&mut *room, place, parities[i], variables[i]);
+    for (i, &mask) in factors.masks.as_slice().iter().enumerate() {
+        put_factor(&mut *room, place, constants[i], mask);
         place += FACTOR_LENGTH;
-        i += 1;
     }
     place
 }
 
 // The number of bytes of the form of a choice.
-fn form_length(choice: Choice, m: usize) -> usize
-    requires { IsChoice m choice }
-    ensures { result ≡ form_length m choice }
+fn form_length(choice: &Choice, m: usize) -> usize
+    requires { IsChoice m choice.now }
+    ensures { result ≡ form_length m choice.now }
 {
-    let degrees = choice.degrees;
-    let count = choice.count;
     let mut length = FIRST_PRODUCT;
-    let mut i = 0;
-    while i < count {
-        length += 1 + FACTOR_LENGTH * (m - degrees[i]);
-        i += 1;
+    for &prime in choice.as_slice() {
+        length += 1 + FACTOR_LENGTH * (m - prime.degree);
     }
     length + WORD_RECORD_LENGTH
 }
 
 // The products of a choice, with the equations put in, behind the first record. The place behind them is returned.
-fn put_products(equations: ShortList, m: usize, choice: Choice, room: &mut [u8]) -> usize
+fn put_products(equations: ShortList, m: usize, choice: &Choice, room: &mut [u8]) -> usize
     requires equations_value { equations ≡ short (listed equations) }
-    requires choice { IsChoice m choice }
-    requires choice_in_bounds { form_length m choice ≤ length room.old }
-    ensures value { result ≡ 2 + products_length m choice.degrees choice.count }
-    ensures room_after { room.new ≡ sets room.old 2 (encode_products (products_by (listed equations) m choice choice.count)) }
+    requires choice { IsChoice m choice.now }
+    requires choice_in_bounds { form_length m choice.now ≤ length room.old }
+    ensures value { result ≡ 2 + products_length m choice.now.primes choice.now.count }
+    ensures room_after { room.new ≡ sets room.old 2 (encode_products (products_by (listed equations) m choice.now choice.now.count)) }
 {
-    let degrees = choice.degrees;
-    let points = choice.points;
-    let entries = choice.entries;
-    let count = choice.count;
     let mut at = FIRST_PRODUCT;
-    let mut i = 0;
-    while i < count {
-        let product = factors::product_of(equations, m, degrees[i], points[i], entries[i]);
+    for &prime in choice.as_slice() {
+        let product = factors::product_of(equations, m, prime);
         at = put_product(&mut *room, at, product);
-        i += 1;
     }
     at
 }
 
 // The form of n variables with the products of a choice, at the front of the room.
-fn put_form(n: usize, equations: ShortList, m: usize, choice: Choice, room: &mut [u8])
+fn put_form(n: usize, equations: ShortList, m: usize, choice: &Choice, room: &mut [u8])
     requires n_le_max_variables { n ≤ max_variables }
     requires equations_value { equations ≡ short (listed equations) }
-    requires choice { IsChoice m choice }
-    requires choice_in_bounds { form_length m choice ≤ length room.old }
-    ensures { room.new ≡ front (encode_form (record { variables = n; products = products_by (listed equations) m choice choice.count })) room.old }
+    requires choice { IsChoice m choice.now }
+    requires choice_in_bounds { form_length m choice.now ≤ length room.old }
+    ensures { room.new ≡ front (encode_form (record { variables = n; products = products_by (listed equations) m choice.now choice.now.count })) room.old }
 {
     room[0] = records::VARIABLES_KIND;
     room[1] = n as u8;
@@ -138,15 +124,48 @@ pub fn choose_restriction(flags: &[bool; MAX_POINTS], basis: Basis, n: usize) ->
     choice::choose(n - basis.len, &points[0..count])
 }
 
-// A refusal: all other numbers are 0.
-fn refused(refusal: u8) -> FormWritten
-    ensures { result ≡ write_refused refusal }
-{
-    FormWritten {
-        refusal,
-        length: 0,
-        products: 0,
+impl Answer for FormWritten {
+    ghost refused_with = { refused_form };
+
+    fn refused(refusal: Refusal) -> FormWritten {
+        FormWritten {
+            refusal: refusal.number(),
+            length: 0,
+            products: 0,
+        }
     }
+}
+
+// The tests in their order, then the bytes at the front of the room.
+fn try_write_form(
+    n: usize,
+    on: &[u16],
+    free: &[u16],
+    room: &mut [u8],
+) -> Result<FormWritten, Refusal>
+    ensures value { settled refused_form result ≡ write_answer n on.now free.now room.old }
+    ensures room_after { room.new ≡ write_after n on.now free.now room.old }
+{
+    table::check_table(n, on, free)?;
+    let completed = space::complete(n, on, free);
+    let flags = completed.flags;
+    let basis = completed.basis;
+    let m = n - basis.len;
+    if m > MAX_LISTED {
+        return Err(Refusal::Size);
+    }
+    let choice = choose_restriction(&flags, basis, n);
+    let length = form_length(&choice, m);
+    if room.len() < length {
+        return Err(Refusal::Room);
+    }
+    let equations = projection::equations(basis, n);
+    put_form(n, equations, m, &choice, &mut *room);
+    Ok(FormWritten {
+        refusal: 0,
+        length,
+        products: choice.count,
+    })
 }
 
 // The form of a table, at the front of the room. Refusals 1, 2, 3, 4, 5, then 7.
@@ -154,27 +173,5 @@ pub fn write_form(n: usize, on: &[u16], free: &[u16], room: &mut [u8]) -> FormWr
     ensures value { result ≡ write_answer n on.now free.now room.old }
     ensures room_after { room.new ≡ write_after n on.now free.now room.old }
 {
-    let fault = table::table_fault(n, on, free);
-    if fault != 0 {
-        return refused(fault);
-    }
-    let completed = space::complete(n, on, free);
-    let flags = completed.flags;
-    let basis = completed.basis;
-    let m = n - basis.len;
-    if m > MAX_LISTED {
-        return refused(SIZE_FAULT);
-    }
-    let choice = choose_restriction(&flags, basis, n);
-    let length = form_length(choice, m);
-    if room.len() < length {
-        return refused(ROOM_FAULT);
-    }
-    let equations = projection::equations(basis, n);
-    put_form(n, equations, m, choice, &mut *room);
-    FormWritten {
-        refusal: 0,
-        length,
-        products: choice.count,
-    }
+    table::settle(try_write_form(n, on, free, &mut *room))
 }

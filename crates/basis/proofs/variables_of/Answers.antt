@@ -2,7 +2,7 @@
 use mathlib.Core.Path.{◌≡◌, sym, ap, ◌∙◌}
 use mathlib.Core.Bool.{Bool, true, false, cond}
 use mathlib.Core.List.{List, [], ◌∷◌, ◌++◌}
-use Prim.Native.Nat.{ℕ, suc, ◌+◌, ◌-◌, ◌<◌}
+use Prim.Native.Nat.{ℕ, suc, ◌-◌, ◌<◌}
 use native.Mathlib.Omega.{arith}
 use lib.ListN.{length-append}
 use Rattle.gf2.specs.Bits.{bit, index_of}
@@ -33,23 +33,27 @@ loop-k-preserved-then-bit c =
     let l = c.loop-k in
     let a = c.args in
     let found = listed l.found ++ ((a.n - (l.k - 1)) ∷ []) in
-    let p : c.push-found.result ≡ short found = c.push-found.ensures ∙ ap (λ (v : ℕ). short (listed l.found ++ (v ∷ []))) c.index_of.ensures in (
-      omega arith,
-      omega (arith, short-len c.push-found.result found p, length-append (listed l.found) ((a.n - (l.k - 1)) ∷ []), short-len l.found (listed l.found) l.invariant.2),
-      short-again c.push-found.result found p,
-      rw (short-listed c.push-found.result found p)
-          (taken a.n a.mask l.k (omega arith) (listed l.found) (sym c.bit.ensures ∙ c.if-bit.true) ∙ l.invariant.3),
-    )
+    let p : c.push-found.result ≡ short found = c.push-found.ensures ∙ ap (λ (v : ℕ). short (listed l.found ++ (v ∷ []))) c.index_of.ensures in
+    record {
+      few = omega (arith, short-len c.push-found.result found p, length-append (listed l.found) ((a.n - (l.k - 1)) ∷ []), short-len l.found (listed l.found) l.invariant.packed);
+      packed = short-again c.push-found.result found p;
+      rest = rw (short-listed c.push-found.result found p)
+          (taken a.n a.mask l.k (omega arith) (listed l.found) (sym c.bit.ensures ∙ c.if-bit.true) ∙ l.invariant.rest);
+    }
 
 pub loop-k-preserved : goal.loop-k-preserved
 loop-k-preserved c =
     let l = c.loop-k in
     let a = c.args in
-    (omega arith, omega arith, l.invariant.2, left a.n a.mask l.k (omega arith) (listed l.found) (sym c.bit.ensures ∙ c.if-bit.false) ∙ l.invariant.3)
+    record {
+      few = omega arith;
+      packed = l.invariant.packed;
+      rest = left a.n a.mask l.k (omega arith) (listed l.found) (sym c.bit.ensures ∙ c.if-bit.false) ∙ l.invariant.rest;
+    }
 
 pub returns : goal.returns
 returns c =
     let l = c.loop-k in
     let a = c.args in
     let e : l.k ≡ 0 = omega arith in
-    l.invariant.2 ∙ ap short (sym (places-none (index_of a.n) (λ (j : ℕ). bit j a.mask) (listed l.found)) ∙ (rw e at l.invariant.3))
+    l.invariant.packed ∙ ap short (sym (places-none (index_of a.n) (λ (j : ℕ). bit j a.mask) (listed l.found)) ∙ (rw e at l.invariant.rest))

@@ -1,59 +1,58 @@
 -- `choice::first_of_degree` meets its contract: the best of the entries passed so far is what `Best` says. Assumes nothing.
-use mathlib.Core.Path.{◌≡◌, refl, sym, ap, subst}
-use mathlib.Core.Bool.{false}
-use Prim.Native.Nat.{ℕ, ◌≤◌, ◌<◌}
+use mathlib.Core.Path.{◌≡◌, sym, subst}
+use Prim.Native.Nat.{ℕ, ◌+◌, ◌<◌}
 use native.Mathlib.Omega.{arith}
 use lib.ListN.{get_or}
+use Rattle.std.specs.Prelude.{None}
 use Rattle.gf2.specs.Finite.{Mem}
-use Rattle.bases.specs.Bases.{entry_count, stop, entries_of}
+use Rattle.bases.specs.Entries.{entries}
+use Rattle.bases.specs.Bases.{start, stop, entries_of}
 use Rattle.masks.specs.Points.{prime_by}
-use Rattle.bases.proofs.Bounds.{bounds, entry-mem}
+use Rattle.bases.proofs.Bounds.{entry-mem, part-below, part-entry, part-end}
 use Rattle.choice.proofs.Reductions.{six}
 use Rattle.choice.proofs.Best.{Best, best-start, best-step, best-entry, best-first}
 use Rattle.choice.proofs.first_of_degree.Goals as goal
+use Rattle.choice.proofs.first_of_degree.Goals.{In-loop-entry}
 
-pub start_of-i-requires : goal.start_of-i-requires
-start_of-i-requires c = six c.requires.search
-
-pub stop_of-end-requires : goal.stop_of-end-requires
-stop_of-end-requires c = six c.requires.search
-
-pub loop-i-init : goal.loop-i-init
-loop-i-init c =
+pub loop-entry-init : goal.loop-entry-init
+loop-entry-init c =
     let a = c.args in
-    subst (λ (z : ℕ). Best (prime_by a.m a.on 0) a.m a.d a.x z (record { any = false; degree = 0; point = 0; entry = 0 })) (sym c.start_of-i.ensures)
-    (best-start (prime_by a.m a.on 0) a.m a.d a.x (six c.requires.search) (record { any = false; degree = 0; point = 0; entry = 0 }) refl)
+    let q : start a.d ≡ start a.d + 0 = omega arith in
+    subst (λ (z : ℕ). Best (prime_by a.m a.on 0) a.m a.d a.x z None) q (best-start (prime_by a.m a.on 0) a.m a.d a.x (six c.requires.search))
 
--- The place is before the end of the entries.
-last : (d i : ℕ) → d ≤ 6 → i < stop d → i < entry_count
-last d i h l = omega (arith, (bounds d h).1)
+-- The place of the entry is one of d vectors, and it is the entry of the table there.
+within : (c : In-loop-entry) → start c.args.d + c.loop-entry.entry-index < stop c.args.d
+within c =
+    part-below c.entries_of-entry-items.result.now c.args.d c.loop-entry.entry-index (six c.requires.search) c.entries_of-entry-items.ensures c.loop-entry-test.true
 
-pub offset_bounds-table-i : goal.offset_bounds-table-i
-offset_bounds-table-i c = omega (arith, last c.args.d c.loop-i.i (six c.requires.search) (omega (arith, c.loop-i-test.true, c.stop_of-end.ensures)))
-
-pub bounds-table-i : goal.bounds-table-i
-bounds-table-i c = last c.args.d c.loop-i.i (six c.requires.search) (omega (arith, c.loop-i-test.true, c.stop_of-end.ensures))
+entry : (c : In-loop-entry)
+    → get_or c.entries_of-entry-items.result.now c.loop-entry.entry-index 0 ≡ get_or entries (start c.args.d + c.loop-entry.entry-index) 0
+entry c =
+    part-entry c.entries_of-entry-items.result.now c.args.d c.loop-entry.entry-index (six c.requires.search) c.entries_of-entry-items.ensures c.loop-entry-test.true
 
 pub better-best-requires : goal.better-best-requires
 better-best-requires c =
-    let b = c.loop-i in record {
+    let p = (goal.at.better-best-requires c).In-loop-entry in record {
       search = c.requires.search;
-      mem = subst (λ (z : ℕ). Mem z (entries_of c.args.d)) (sym (ap (λ l. get_or l c.loop-i.i 0) c.requires.table_value)) (entry-mem c.args.d b.i (six c.requires.search) b.invariant.low (omega (arith, c.loop-i-test.true, c.stop_of-end.ensures)));
+      mem = subst (λ (z : ℕ). Mem z (entries_of c.args.d)) (sym (entry p)) (entry-mem c.args.d (start c.args.d + c.loop-entry.entry-index) (six c.requires.search) (omega arith) (within p));
     }
 
-pub loop-i-preserved : goal.loop-i-preserved
-loop-i-preserved c =
+pub loop-entry-preserved : goal.loop-entry-preserved
+loop-entry-preserved c =
+    let p = (goal.at.loop-entry-preserved c).In-loop-entry in
     let a = c.args in
-    let b = c.loop-i in
-    best-step (prime_by a.m a.on 0) a.m a.d a.x b.i (six c.requires.search) b.best b.invariant (omega (arith, c.loop-i-test.true, c.stop_of-end.ensures)) (get_or a.table.now b.i 0) (ap (λ l. get_or l c.loop-i.i 0) c.requires.table_value) c.better-best.result c.better-best.ensures
+    let l = c.loop-entry in
+    let q : start a.d + l.entry-index + 1 ≡ start a.d + (l.entry-index + 1) = omega arith in
+    subst (λ (z : ℕ). Best (prime_by a.m a.on 0) a.m a.d a.x z c.better-best.result) q
+    (best-step (prime_by a.m a.on 0) a.m a.d a.x (start a.d + l.entry-index) (six c.requires.search) l.best l.invariant (within p)
+    (get_or c.entries_of-entry-items.result.now l.entry-index 0) (entry p) c.better-best.result c.better-best.ensures)
 
 pub returns : goal.returns
 returns c =
     let a = c.args in
-    let b = c.loop-i in
-    let q : b.i ≡ stop a.d = omega (arith, c.loop-i-test.false, c.stop_of-end.ensures, b.invariant.high) in
-    let e = subst (λ (z : ℕ). Best (prime_by a.m a.on 0) a.m a.d a.x z b.best) q b.invariant in
-    record {
-      result_value = best-first c.requires.search (prime_by a.m a.on 0) b.best e;
-      found_at = best-entry c.requires.search (prime_by a.m a.on 0) b.best e;
-    }
+    let l = c.loop-entry in
+    let q : start a.d + l.entry-index ≡ stop a.d =
+    part-end c.entries_of-entry-items.result.now a.d l.entry-index (six c.requires.search) c.entries_of-entry-items.ensures
+    (omega (arith, c.loop-entry-test.false, l.auto.entry-index-end)) in
+    let b = subst (λ (z : ℕ). Best (prime_by a.m a.on 0) a.m a.d a.x z l.best) q l.invariant in
+    record { first = best-first c.requires.search (prime_by a.m a.on 0) l.best b; found_at = best-entry c.requires.search (prime_by a.m a.on 0) l.best b }

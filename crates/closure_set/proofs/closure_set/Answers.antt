@@ -1,4 +1,4 @@
--- `closure_set::closure_set` meets its contract: after i turns the vectors are left that take the first i on points to allowed ones. Assumes nothing.
+-- `closure_set::closure_set` meets its contract: the vectors are left that take the on points passed to allowed ones. Assumes nothing.
 use mathlib.Core.Path.{ap, ap₂, ◌∙◌, fun_ext}
 use mathlib.Core.Bool.{Bool, ◌&&◌}
 use Prim.Native.Nat.{ℕ}
@@ -13,26 +13,24 @@ use Rattle.closure_set.specs.ClosureSet.{closes}
 use Rattle.closure_set.proofs.Steps.{every-next}
 use Rattle.closure_set.proofs.closure_set.Goals as goal
 
-pub loop-i-init : goal.loop-i-init
-loop-i-init c = (omega arith, λ a h. full-member a h)
+pub loop-w-init : goal.loop-w-init
+loop-w-init c = λ a h. full-member a h
 
 pub moved_set-moved-requires : goal.moved_set-moved-requires
 moved_set-moved-requires c =
-    inside-at set_variables c.args.on.now c.requires.on_value c.loop-i.i (omega arith)
+    inside-at set_variables c.args.on.now c.requires.on_value c.loop-w.w-index (omega arith)
 
-pub loop-i-preserved : goal.loop-i-preserved
-loop-i-preserved c =
-    let l = c.loop-i in
-    let points = member c.allowed_points-allowed.result in (
-      omega arith,
-      λ a h. c.both-closure.ensures a ∙ ap₂ ◌&&◌ (l.invariant.1 a h) (c.moved_set-moved.ensures a) ∙ every-next points c.args.on.now l.i a (omega arith),
-    )
+pub loop-w-preserved : goal.loop-w-preserved
+loop-w-preserved c =
+    let l = c.loop-w in
+    let points = member c.allowed_points-allowed.result in
+    λ a h. c.both-closure.ensures a ∙ ap₂ ◌&&◌ (l.invariant a h) (c.moved_set-moved.ensures a) ∙ every-next points c.args.on.now l.w-index a (omega arith)
 
 pub returns : goal.returns
 unfolding closes
 returns c a h =
-    let l = c.loop-i in
+    let l = c.loop-w in
     let on = c.args.on.now in
-    l.invariant.1 a h
-    ∙ ap (every (λ w. member c.allowed_points-allowed.result (w ⊕ a))) (take_all l.i on (omega arith))
+    l.invariant a h
+    ∙ ap (every (λ w. member c.allowed_points-allowed.result (w ⊕ a))) (take_all l.w-index on (omega arith))
     ∙ ap (λ (t : ℕ → Bool). every (λ w. t (w ⊕ a)) on) (fun_ext c.allowed_points-allowed.ensures)

@@ -20,19 +20,17 @@ stored flags w t f h g e x l = go (ℕ_discrete x w)
     go (no q) = get_or-set_other flags w x t false q ∙ g x (omega arith)
 
 pub loop-w-init : goal.loop-w-init
-loop-w-init c = (omega arith, refl, λ x h. absurd (omega arith))
+loop-w-init c = record { long = refl; stored = λ x h. absurd (omega arith) }
 
 pub loop-w-preserved : goal.loop-w-preserved
 loop-w-preserved c =
     let l = c.loop-w in
+    let i = l.invariant in
     let p = c.spread_points-points.result in
-    rw c.flag_place.ensures (
-      omega arith,
-      length-set l.flags l.w c.has.result ∙ l.invariant.1,
-      stored l.flags l.w c.has.result (member p) (omega (arith, l.invariant.1)) l.invariant.2 c.has.ensures,
-    )
+    record {
+      long = length-set l.flags l.w c.has.result ∙ i.long;
+      stored = stored l.flags l.w c.has.result (member p) (omega (arith, i.long)) i.stored c.has.ensures;
+    }
 
 pub returns : goal.returns
-returns c w h =
-    let l = c.loop-w in
-    l.invariant.2 w (omega arith) ∙ c.spread_points-points.ensures w
+returns c w h = c.loop-w.invariant.stored w (omega arith) ∙ c.spread_points-points.ensures w

@@ -1,6 +1,5 @@
 -- `compare::count_differing` meets its contract: the count so far is that of the differing points below p. Assumes nothing.
 use mathlib.Core.Path.{◌≡◌}
-use Prim.Native.Nat.{◌≤◌, ◌-◌}
 use lib.ListN.{length}
 use Rattle.gf2.specs.Finite.{select}
 use Rattle.point_marks.specs.Marks.{mark_at}
@@ -8,7 +7,4 @@ use Rattle.compare.specs.Differences.{differs}
 use Rattle.compare.proofs.count_differing.Given as goal
 
 abbrev pub invariant-loop-p : goal.invariant-loop-p
-invariant-loop-p l = (l.p ≤ l.size) × (l.count ≡ length (select (differs (mark_at l.left) (mark_at l.right)) l.p))
-
-abbrev pub decreases-loop-p : goal.decreases-loop-p
-decreases-loop-p l = l.size - l.p
+invariant-loop-p l = l.count ≡ length (select (differs (mark_at l.left) (mark_at l.right)) l.p)

@@ -1,7 +1,7 @@
 -- `factors::basis_of` meets its contract: the vectors found, then those of what is left of the entry, are the whole. Assumes nothing.
 use mathlib.Core.Path.{◌≡◌, refl, sym, ap, ◌∙◌}
 use mathlib.Core.List.{[], ◌∷◌, ◌++◌, append-nil}
-use Prim.Native.Nat.{ℕ, ◌%◌}
+use Prim.Native.Nat.{ℕ, ◌+◌, ◌-◌, ◌%◌}
 use native.Mathlib.Omega.{arith}
 use lib.ListN.{length-append}
 use Rattle.basis.specs.declared.Basis.{Basis}
@@ -13,22 +13,22 @@ use Rattle.bases.specs.Bases.{vectors_of}
 use Rattle.factors.proofs.Steps.{vectors-next}
 use Rattle.factors.proofs.basis_of.Goals as goal
 
-pub loop-left-init : goal.loop-left-init
-loop-left-init c = (omega arith, omega arith, refl, refl)
+pub loop-init : goal.loop-init
+loop-init c = let q : c.args.d - 0 ≡ c.args.d = omega arith in (refl, refl, rw q)
 
 pub push-vectors-requires : goal.push-vectors-requires
-push-vectors-requires c = let l = c.loop-left in record { self_value = l.invariant.2; len_lt_max_variables = omega arith }
+push-vectors-requires c = let l = c.loop in record { self_value = l.invariant.1; len_lt_max_variables = omega arith }
 
-pub loop-left-preserved : goal.loop-left-preserved
-loop-left-preserved c =
-    let l = c.loop-left in
+pub loop-preserved : goal.loop-preserved
+loop-preserved c =
+    let l = c.loop in
     let p = c.push-vectors in
     let v = l.rest % 256 in
-    let f = listed l.vectors ++ (v ∷ []) in (
-      omega arith,
-      omega (arith, short-len p.result f p.ensures, length-append (listed l.vectors) (v ∷ []), short-len l.vectors (listed l.vectors) l.invariant.2),
+    let f = listed l.vectors ++ (v ∷ []) in
+    let q : c.args.d - (l.counter + 1) ≡ c.args.d - l.counter - 1 = omega arith in (
+      omega (arith, short-len p.result f p.ensures, length-append (listed l.vectors) (v ∷ []), short-len l.vectors (listed l.vectors) l.invariant.1),
       short-again p.result f p.ensures,
-      rw (short-listed p.result f p.ensures) (vectors-next l.left l.rest (listed l.vectors) (omega arith) ∙ l.invariant.3),
+      rw (short-listed p.result f p.ensures, q) (vectors-next (c.args.d - l.counter) l.rest (listed l.vectors) (omega arith) ∙ l.invariant.2),
     )
 
 -- None are left.
@@ -41,6 +41,6 @@ whole d entry s rest left z e h =
 
 pub returns : goal.returns
 returns c =
-    let l = c.loop-left in
+    let l = c.loop in
     let a = c.args in
-    whole a.d a.entry l.vectors l.rest l.left (omega arith) l.invariant.2 l.invariant.3
+    whole a.d a.entry l.vectors l.rest (a.d - l.counter) (omega arith) l.invariant.1 l.invariant.2

@@ -1,13 +1,10 @@
 -- `factors::basis_of` meets its contract: the vectors found, then those of what is left of the entry, are the whole. Assumes nothing.
 use mathlib.Core.Path.{◌≡◌}
 use mathlib.Core.List.{◌++◌}
-use Prim.Native.Nat.{◌+◌, ◌≤◌}
+use Prim.Native.Nat.{◌-◌}
 use Rattle.basis.specs.Short.{listed, short}
 use Rattle.bases.specs.Bases.{vectors_of}
 use Rattle.factors.proofs.basis_of.Given as goal
 
-abbrev pub invariant-loop-left : goal.invariant-loop-left
-invariant-loop-left l = (l.left ≤ l.d) × (l.vectors.len + l.left ≡ l.d) × (l.vectors ≡ short (listed l.vectors)) × (listed l.vectors ++ vectors_of l.left l.rest ≡ vectors_of l.d l.entry)
-
-abbrev pub decreases-loop-left : goal.decreases-loop-left
-decreases-loop-left l = l.left
+abbrev pub invariant-loop : goal.invariant-loop
+invariant-loop l = (l.vectors.len ≡ l.counter) × (l.vectors ≡ short (listed l.vectors)) × (listed l.vectors ++ vectors_of (l.d - l.counter) l.rest ≡ vectors_of l.d l.entry)

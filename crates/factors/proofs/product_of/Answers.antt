@@ -40,12 +40,12 @@ module _ (m d point entry : ℕ) (few : m ≤ max_listed) (k : IsCandidate m (ca
       (λ v i. omega (arith, vectors-below m (candidate_at d point entry) k v i, pow_mono few)))
 
 pub basis_of-basis-requires : goal.basis_of-basis-requires
-basis_of-basis-requires c = few-vectors c.args.m c.args.d c.args.point c.args.entry c.requires.m_le_max_listed c.requires.candidate
+basis_of-basis-requires c = few-vectors c.args.m c.args.prime.degree c.args.prime.point c.args.prime.entry c.requires.m_le_max_listed c.requires.candidate
 
 pub equations-masks-requires : goal.equations-masks-requires
 equations-masks-requires c =
     record {
-      basis = a-basis c.args.m c.args.d c.args.point c.args.entry c.requires.m_le_max_listed c.requires.candidate c.basis_of-basis.result c.basis_of-basis.ensures;
+      basis = a-basis c.args.m c.args.prime.degree c.args.prime.point c.args.prime.entry c.requires.m_le_max_listed c.requires.candidate c.basis_of-basis.result c.basis_of-basis.ensures;
       n_le_max_variables = omega (arith, c.requires.m_le_max_listed);
     }
 
@@ -54,7 +54,7 @@ factors_at-requires c =
     let b = c.basis_of-basis in
     record {
       equations_value = c.requires.equations_value;
-      masks_value = (known (listed c.args.equations) c.args.m c.args.d c.args.point c.args.entry b.result b.ensures c.equations-masks.result c.equations-masks.ensures).0;
+      masks_value = (known (listed c.args.equations) c.args.m c.args.prime.degree c.args.prime.point c.args.prime.entry b.result b.ensures c.equations-masks.result c.equations-masks.ensures).0;
     }
 
 pub returns : goal.returns
@@ -62,4 +62,4 @@ returns c =
     let b = c.basis_of-basis in
     let y = c.equations-masks in
     c.factors_at.ensures
-    ∙ (known (listed c.args.equations) c.args.m c.args.d c.args.point c.args.entry b.result b.ensures y.result y.ensures).1
+    ∙ (known (listed c.args.equations) c.args.m c.args.prime.degree c.args.prime.point c.args.prime.entry b.result b.ensures y.result y.ensures).1

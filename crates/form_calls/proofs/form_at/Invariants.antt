@@ -8,8 +8,8 @@ use Rattle.form.specs.Decoding.{parts_from, decode_form}
 use Rattle.form_calls.proofs.Valuing.{value_from, Rest}
 use Rattle.form_calls.proofs.form_at.Given as goal
 
-abbrev pub invariant-loop-holds : goal.invariant-loop-holds
-invariant-loop-holds l = Rest (drop l.place l.bytes) × (value_from l.holds (parts_from 0 (drop l.place l.bytes)) l.point ≡ form_at (decode_form l.bytes) l.point)
+abbrev pub invariant-loop-place : goal.invariant-loop-place
+invariant-loop-place l = Rest (drop l.place l.bytes) × (value_from l.holds (parts_from 0 (drop l.place l.bytes)) l.point ≡ form_at (decode_form l.bytes) l.point)
 
-abbrev pub decreases-loop-holds : goal.decreases-loop-holds
-decreases-loop-holds l = length l.bytes - l.place
+abbrev pub decreases-loop-place : goal.decreases-loop-place
+decreases-loop-place l = length l.bytes - l.place

@@ -1,16 +1,13 @@
--- `form_calls::write_points` meets its contract: the points passed are written, and the count is theirs. Assumes nothing.
-use Prim.Native.Nat.{◌≤◌, ◌-◌}
+-- `form_calls::write_points` meets its contract: the points so far stand at the front of the room. Assumes nothing.
 use mathlib.Core.Path.{◌≡◌}
-use mathlib.Core.List.{map}
-use lib.ListN.{length}
+use lib.ListN.{length, take}
 use Rattle.gf2.specs.Finite.{select}
 use Rattle.table.specs.Decision.{front}
 use Rattle.form.specs.Form.{form_at}
 use Rattle.form.specs.Decoding.{decode_form}
 use Rattle.form_calls.proofs.write_points.Given as goal
 
-abbrev pub invariant-loop-point : goal.invariant-loop-point
-invariant-loop-point l = (l.point ≤ l.size) × (l.count ≡ length (select (form_at (decode_form l.bytes)) l.point)) × (l.room ≡ front (map (λ p. p) (select (form_at (decode_form l.bytes)) l.point)) l.initial.room)
-
-abbrev pub decreases-loop-point : goal.decreases-loop-point
-decreases-loop-point l = l.size - l.point
+abbrev pub invariant-loop-place : goal.invariant-loop-place
+invariant-loop-place l =
+    (goal.iterator-loop-place).can_next l.place-iterator × (goal.iterator-loop-place).is_finite l.place-iterator
+    × (l.room ≡ front (take (length l.yielded) (select (form_at (decode_form l.bytes)) l.size)) l.initial.room)

@@ -1,22 +1,23 @@
 -- `index::bound` meets its contract: none of the records belongs to refused bytes, and to a form no more than it has points. Assumes nothing.
-use borrow.Author.Tests.{eq-eqb, ne_eqb, lt-ltb, le-ltb}
+use mathlib.Core.Path.{ap, ◌∙◌}
+use borrow.Author.Rules.{rules}
+use borrow.Author.Tests.{eq-eqb, ne_eqb}
+use Rattle.table.specs.Refusal.{Fault}
+use Rattle.table.proofs.Results.{number-nonzero}
+use Rattle.form.specs.Refusal.{form_fault}
+use Rattle.form_calls.proofs.Answering.{form-sound}
 use Rattle.index.specs.Records.{bound_of}
-use Rattle.index.proofs.Faulting.{found-form, found_number}
 use Rattle.index.proofs.bound.Goals as goal
 
-pub returns-then-fault-ne0 : goal.returns-then-fault-ne0
-unfolding bound_of
-returns-then-fault-ne0 c = rw (ne_eqb _ 0 (found_number c.args.form.now c.form_fault-fault.ensures c.if-fault-ne0.true))
+pub form_size-requires : goal.form_size-requires
+form_size-requires c = (form-sound c.args.form.now c.in-Ok.ensures).1
 
-pub form_size-points-requires : goal.form_size-points-requires
-form_size-points-requires c = (found-form c.args.form.now c.form_fault-fault.ensures c.if-fault-ne0.false).1
-
-pub returns-then-records-points : goal.returns-then-records-points
+pub returns-in-Ok : goal.returns-in-Ok
 unfolding bound_of
-returns-then-records-points c =
-    rw (eq-eqb _ 0 (found-form c.args.form.now c.form_fault-fault.ensures c.if-fault-ne0.false).0, ← c.form_size-points.ensures, lt-ltb _ _ c.if-records-points.true)
+returns-in-Ok c = rw (eq-eqb _ 0 (form-sound c.args.form.now c.in-Ok.ensures).0, ← c.form_size.ensures) (search rules)
 
-pub returns : goal.returns
-unfolding bound_of
-returns c =
-    rw (eq-eqb _ 0 (found-form c.args.form.now c.form_fault-fault.ensures c.if-fault-ne0.false).0, ← c.form_size-points.ensures, le-ltb _ _ c.if-records-points.false)
+pub returns-in-Err : goal.returns-in-Err
+unfolding bound_of form_fault
+returns-in-Err c =
+    let number = ap (λ (f : Fault). f.number) c.in-Err.ensures in
+    rw (ne_eqb _ 0 (λ z. number-nonzero c.in-Err.field-0 (number ∙ z)))

@@ -2,14 +2,11 @@
 use mathlib.Core.Path.{◌≡◌}
 use Prim.Native.Nat.{◌+◌}
 use lib.ListN.{length, drop}
-use Rattle.form.specs.Decoding.{parts_from}
+use Rattle.form.specs.Decoding.{parts_from, form_products}
 use Rattle.index.specs.Answers.{last_place}
 use Rattle.index.proofs.Reading.{Begun, lasts_length}
 use Rattle.index.proofs.last_product.Given as goal
 
-abbrev pub invariant-loop-left : goal.invariant-loop-left
-invariant-loop-left l = Begun (drop l.place l.form) × (l.left + 1 ≡ length (parts_from 0 (drop l.place l.form)).products)
+abbrev pub invariant-loop-passed : goal.invariant-loop-passed
+invariant-loop-passed l = Begun (drop l.place l.form) × (l.passed + length (parts_from 0 (drop l.place l.form)).products ≡ length (form_products l.form) + 1)
     × (l.place + lasts_length (parts_from 0 (drop l.place l.form)).products ≡ last_place l.form)
-
-abbrev pub decreases-loop-left : goal.decreases-loop-left
-decreases-loop-left l = l.left

@@ -1,33 +1,20 @@
 -- `index::put_form` meets its contract: three parts one after the other, from the front of the room on. Assumes nothing.
-use mathlib.Core.Path.{◌≡◌, ap, ◌∙◌}
-use mathlib.Core.List.{List, ◌++◌}
-use Prim.Native.Nat.{ℕ, ◌+◌}
+use mathlib.Core.Path.{◌≡◌, sym, ap, ◌∙◌}
+use mathlib.Core.List.{List, ◌++◌, append_assoc}
+use Prim.Native.Nat.{ℕ, ◌+◌, ◌-◌, ◌≤◌}
 use native.Mathlib.Omega.{arith}
-use lib.ListN.{length, length-append}
-use lib.Seq.{sets, length-sets}
+use borrow.Rule.Slice.PartMut.{post_of, put_mid, Post-is}
+use lib.ListN.{length, drop, take, length-append}
+use lib.Seq.{sets, sets-eq, length-sets}
 use Rattle.records.specs.Kinds.{encode_end}
 use Rattle.table.proofs.Fill.{sets-append, sets-front}
 use Rattle.index.proofs.put_form.Goals as goal
 
-pub write_word-next-requires : goal.write_word-next-requires
-write_word-next-requires c = record { fits = omega (arith, c.requires) }
-
-pub write_word-end-requires : goal.write_word-end-requires
-write_word-end-requires c =
-    record { fits = omega (arith, c.requires, c.write_word-next.ensures.place, ap length c.write_word-next.ensures.bytes, length-sets c.args.room.now 0 c.args.kept.now) }
-
-pub put_end-requires : goal.put_end-requires
-put_end-requires c =
-    omega (
-      arith,
-      c.requires,
-      c.write_word-next.ensures.place,
-      c.write_word-end.ensures.place,
-      ap length c.write_word-end.ensures.bytes,
-      length-sets c.write_word-next.new.room c.write_word-next.result c.args.added.now,
-      ap length c.write_word-next.ensures.bytes,
-      length-sets c.args.room.now 0 c.args.kept.now,
-    )
+-- A part of the room that a list is copied over.
+copied : (room : List ℕ) (place : ℕ) (list now : List ℕ) → place + length list ≤ length room → now ≡ list → put_mid place (place + length list - place) room now ≡ sets room place list
+copied room place list now h e =
+    let rest : post_of place (place + length list - place) room ≡ drop (place + length list) room = Post-is place (place + length list) room (omega arith) in
+    rw (e, rest) (sym (sets-eq list room place h ∙ append_assoc (take place room) list (drop (place + length list) room)))
 
 pub returns : goal.returns
 returns c =
@@ -35,8 +22,10 @@ returns c =
     let kept = c.args.kept.now in
     let added = c.args.added.now in
     let end = encode_end c.args.products in
-    let both : c.write_word-end.new.room ≡ sets room 0 (kept ++ added)
-    = c.write_word-end.ensures.bytes ∙ ap (λ (l : List ℕ). sets l c.write_word-next.result added) c.write_word-next.ensures.bytes ∙ sets-append room 0 kept added c.write_word-next.result c.write_word-next.ensures.place in
-    let place : c.write_word-end.result ≡ 0 + length (kept ++ added) = omega (arith, c.write_word-end.ensures.place, c.write_word-next.ensures.place, length-append kept added) in
-    c.put_end.ensures ∙ ap (λ (l : List ℕ). sets l c.write_word-end.result end) both ∙ sets-append room 0 (kept ++ added) end c.write_word-end.result place
+    let next = length kept in
+    let first : c.copy_from_slice.new.self ++ drop next room ≡ sets room 0 kept = ap (λ (l : List ℕ). l ++ drop next room) c.copy_from_slice.ensures.after ∙ sym (sets-front room kept (omega (arith, c.requires))) in
+    let both : put_mid next (next + length added - next) (c.copy_from_slice.new.self ++ drop next room) c.copy_from_slice-2.new.self ≡ sets room 0 (kept ++ added) =
+    copied (c.copy_from_slice.new.self ++ drop next room) next added c.copy_from_slice-2.new.self (omega (arith, c.requires, ap length first, length-sets room 0 kept)) c.copy_from_slice-2.ensures.after
+    ∙ ap (λ (l : List ℕ). sets l next added) first ∙ sets-append room 0 kept added next (omega arith) in
+    c.put_end.ensures ∙ ap (λ (l : List ℕ). sets l (next + length added) end) both ∙ sets-append room 0 (kept ++ added) end (next + length added) (omega (arith, length-append kept added))
     ∙ sets-front room ((kept ++ added) ++ end) (omega (arith, c.requires, length-append (kept ++ added) end, length-append kept added))

@@ -1,33 +1,22 @@
 -- `lines::equation_lines` meets its contract: the lines of the masks passed are written. Assumes nothing.
 use native.Mathlib.Omega.{arith}
 use lib.ListN.{length}
-use Rattle.text.proofs.Writing.{room-piece, wrote_none, wrote-length, wrote-piece, wrote_pieces}
+use Rattle.text.proofs.Writing.{with-none, fits-piece, wrote-piece, wrote-pieces}
 use Rattle.lines.proofs.Lines.{equation_at, equation-pieces}
 use Rattle.lines.proofs.equation_lines.Goals as goal
 
 pub loop-i-init : goal.loop-i-init
-loop-i-init c = (omega arith, wrote_none _ _)
+loop-i-init c = with-none _
 
-pub equation_line-next-requires : goal.equation_line-next-requires
-equation_line-next-requires c =
-    let l = c.loop-i in
+pub equation_line-requires-clause-fits : goal.equation_line-requires-clause-fits
+equation_line-requires-clause-fits c =
     let a = c.args in
-    record {
-      n_le_max_variables = c.requires.n_le_max_variables;
-      has_room = room-piece (equation_at a.n 1 a.masks.now) l.i (length a.masks.now) (equation-pieces a.n 1 a.masks.now) c.requires.has_room (omega arith) l.invariant.1;
-    }
+    fits-piece _ (equation_at a.n 1 a.masks.now) c.loop-i.i c.loop-i.invariant (length a.masks.now) (equation-pieces a.n 1 a.masks.now) c.requires.fits c.loop-i-test.true
 
 pub loop-i-preserved : goal.loop-i-preserved
-loop-i-preserved c =
-    let l = c.loop-i in
-    let a = c.args in
-    (omega arith, wrote-piece (equation_at a.n 1 a.masks.now) l.i l.invariant.1 c.equation_line-next.ensures)
-
-pub shape_of-room : goal.shape_of-room
-shape_of-room c = wrote-length c.loop-i.invariant.1
+loop-i-preserved c = wrote-piece _ (equation_at c.args.n 1 c.args.masks.now) c.loop-i.i c.loop-i.invariant c.equation_line.ensures
 
 pub returns : goal.returns
 returns c =
-    let l = c.loop-i in
     let a = c.args in
-    wrote_pieces (equation_at a.n 1 a.masks.now) l.i (length a.masks.now) (equation-pieces a.n 1 a.masks.now) (omega arith) l.invariant.1
+    wrote-pieces _ (equation_at a.n 1 a.masks.now) c.loop-i.i c.loop-i.invariant (length a.masks.now) (equation-pieces a.n 1 a.masks.now) (omega arith)

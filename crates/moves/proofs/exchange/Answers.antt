@@ -11,9 +11,6 @@ use Rattle.moves.proofs.exchange.Goals as goal
 width : (k : ℕ) → k < 6 → 1 * 2 ^ k % 2 ^ 64 ≡ 2 ^ k
 width k h = shifted_one k 64 (omega arith)
 
-pub low_places-low-requires : goal.low_places-low-requires
-low_places-low-requires c = c.requires
-
 pub overflow_shr-result : goal.overflow_shr-result
 overflow_shr-result c = rw (width c.args.k c.requires) (pow-lt c.requires)
 
@@ -21,4 +18,4 @@ pub overflow_shl-result : goal.overflow_shl-result
 overflow_shl-result c = rw (width c.args.k c.requires) (pow-lt c.requires)
 
 pub returns : goal.returns
-returns c = rw (width c.args.k c.requires, c.low_places-low.ensures) (exchange-moved c.args.k c.args.mask c.requires (omega arith))
+returns c = rw (width c.args.k c.requires) (exchange-moved c.args.k c.args.mask c.requires (omega arith))

@@ -1,28 +1,25 @@
--- `pla::count_marks` meets its contract. The loop's invariant: the marks of the points passed are counted. Assumes nothing.
-use mathlib.Core.Path.{◌≡◌, sym, ap}
-use Prim.Native.Nat.{◌^◌}
-use native.Mathlib.Omega.{arith}
-use lib.ListN.{length}
-use Rattle.pla.specs.Table.{flag_on, flag_free}
-use Rattle.pla.proofs.Marking.{marks-start, count_next}
+-- `pla::count_marks` meets its contract: the points that have a mark are counted. Assumes nothing.
+use Rattle.std.proofs.Common.{rules, arith, ◌∙◌, ap, ◌||◌, length}
+use lib.ListN.{take}
 use lib.Pow.{pow_mono}
+use Rattle.std.proofs.lemmas.Iterator.{YieldsList-from_slice}
+use Rattle.std.proofs.lemmas.Iterator.Consumers.{YieldsList-from_filter, count_from_yields_List}
+use Rattle.pla_cubes.specs.Meaning.{free_by}
+use Rattle.pla_cubes.specs.Flagging.{unsaid}
+use Rattle.pla.specs.Table.{marks_below, flag_on, flag_free}
+use Rattle.pla.proofs.Marking.{marks-counted}
 use Rattle.pla.proofs.count_marks.Goals as goal
 
-pub loop-p-init : goal.loop-p-init
-loop-p-init c =
-    let point-count = c.point_count-size in
-    let args = c.args in
-    (omega arith, point-count.ensures, rw point-count.ensures (pow_mono c.requires), omega arith, sym (ap length (marks-start (flag_on args.flags) (flag_free args.kind args.flags))))
-
-pub loop-p-preserved : goal.loop-p-preserved
-loop-p-preserved c =
-    let l = c.loop-p in
-    let mark-count = c.mark_count-count in
-    let args = c.args in
-    let one = rw c.is_free.ensures at (mark-count.ensures.by_index l.p) in
-    (omega arith, l.invariant.1, l.invariant.2, omega (arith, l.invariant.3, mark-count.ensures.upper_bound), omega (arith, l.invariant.4, one, count_next (flag_on args.flags) (flag_free args.kind args.flags) l.p))
+pub shared_ref_as_front-iter : goal.shared_ref_as_front-iter
+shared_ref_as_front-iter c = rw c.point_count-size.ensures (pow_mono c.requires)
 
 pub returns : goal.returns
 returns c =
-    let loop = c.loop-p in
-    let e : loop.p ≡ 2 ^ c.args.n = omega (arith, loop.invariant.1) in rw e at loop.invariant.4
+    let kind = c.args.kind in
+    let flags = c.args.flags.now in
+    let size = c.point_count-size.ensures in
+    count_from_yields_List _ _ c.count.ensures.ran
+    (YieldsList-from_filter _ (λ said. said.one || free_by kind said.zero said.dash) (YieldsList-from_slice (take c.point_count-size.result flags) (search rules)) c.filter.ensures.closure
+    (λ x b q k. (search rules, grind (arith, k))))
+    ∙ marks-counted (λ said. said.one) (λ said. free_by kind said.zero said.dash) flags unsaid c.point_count-size.result (rw (size, c.told-flags) (pow_mono c.requires))
+    ∙ ap (λ k. length (marks_below (flag_on flags) (flag_free kind flags) k)) size

@@ -20,7 +20,7 @@ pub returns-then-on : goal.returns-then-on
 returns-then-on c =
     let a = c.args in
     let e : encode_marks (mark_of a.on a.free a.point) ≡ encode_record on_kind a.point = rw c.if-on.true (record-on a.free a.point) in
-    record { value = omega (arith, ap length e); room_after = c.put_record.ensures ∙ ap (sets a.room.now a.at) (sym e) }
+    record { place = omega (arith, ap length e); room_after = c.put_record.ensures ∙ ap (sets a.room.now a.at) (sym e) }
 
 pub put_record-requires-then-free : goal.put_record-requires-then-free
 put_record-requires-then-free c =
@@ -32,10 +32,10 @@ pub returns-then-free : goal.returns-then-free
 returns-then-free c =
     let a = c.args in
     let e : encode_marks (mark_of a.on a.free a.point) ≡ encode_record free_kind a.point = rw (c.if-on.false, c.if-free.true) (record-free a.point) in
-    record { value = omega (arith, ap length e); room_after = c.put_record-then-free.ensures ∙ ap (sets a.room.now a.at) (sym e) }
+    record { place = omega (arith, ap length e); room_after = c.put_record-then-free.ensures ∙ ap (sets a.room.now a.at) (sym e) }
 
 pub returns : goal.returns
 returns c =
     let a = c.args in
     let e : encode_marks (mark_of a.on a.free a.point) ≡ [] = rw (c.if-on.false, c.if-free.false) (record-none a.point) in
-    record { value = omega (arith, ap length e); room_after = ap (sets a.room.now a.at) (sym e) }
+    record { place = omega (arith, ap length e); room_after = ap (sets a.room.now a.at) (sym e) }

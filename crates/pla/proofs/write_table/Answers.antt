@@ -22,7 +22,7 @@ write_marks-at-requires c =
     let args = c.args in
     record {
       n_le_max_variables = pre.n_le_max_variables;
-      flags_in_bounds = simp length-set (omega (arith, pre.count_value, pre.count_in_bounds, encode-length (flag_marks args.kind args.n args.flags)));
+      flags_in_bounds = simp length-set (omega (arith, pre.count_value, pre.count_in_bounds, encode-length (flag_marks args.kind args.n args.flags.now)));
     }
 
 -- The marks are written, and the room is as long as it was.
@@ -36,7 +36,7 @@ kept c =
 pub overflow_cast-count : goal.overflow_cast-count
 overflow_cast-count c =
     let a = c.args in
-    omega (arith, c.requires.count_value, marks-few (flag_on a.flags) (flag_free a.kind a.flags) (2 ^ a.n), pow_mono c.requires.n_le_max_variables)
+    omega (arith, c.requires.count_value, marks-few (flag_on a.flags.now) (flag_free a.kind a.flags.now) (2 ^ a.n), pow_mono c.requires.n_le_max_variables)
 
 pub put_end-requires : goal.put_end-requires
 put_end-requires c =
@@ -45,10 +45,10 @@ put_end-requires c =
     omega (
       arith,
       kept (goal.at.put_end-requires c).After-write_marks-at,
-      c.write_marks-at.ensures.value,
+      c.write_marks-at.ensures.place,
       pre.count_value,
       pre.count_in_bounds,
-      encode-length (flag_marks a.kind a.n a.flags),
+      encode-length (flag_marks a.kind a.n a.flags.now),
     )
 
 pub returns : goal.returns
@@ -56,4 +56,4 @@ returns c =
     let a = c.args in
     c.put_end.ensures
     ∙ ap (λ (l : List ℕ). sets l c.write_marks-at.result (encode_end a.count)) c.write_marks-at.ensures.room_after
-    ∙ table-written a.room.now a.n (flag_marks a.kind a.n a.flags) a.count c.write_marks-at.result c.requires.count_value c.write_marks-at.ensures.value c.requires.count_in_bounds
+    ∙ table-written a.room.now a.n (flag_marks a.kind a.n a.flags.now) a.count c.write_marks-at.result c.requires.count_value c.write_marks-at.ensures.place c.requires.count_in_bounds

@@ -1,86 +1,51 @@
--- `pla_lines::read_lines` meets its contract. The loop's invariant: the lines from its place on complete the reading, with the head and the flags so far. Assumes nothing.
+-- `pla_lines::read_lines` meets its contract. The loop's invariant: the lines that are left complete the reading, with the head and the flags so far. Assumes nothing.
+use mathlib.Core.Path.{◌≡◌, refl, ap, ◌∙◌}
+use mathlib.Core.Bool.{false}
 use mathlib.Core.List.{[]}
+use Prim.Native.Nat.{◌+◌}
 use native.Mathlib.Omega.{arith}
-use Rattle.pla_lines.proofs.Going.{line-inside, stopped, finished, going, none-flagged, none-bounded, text-start}
+use Rattle.std.proofs.Common.{rules}
+use borrow.Author.Tests.{tests}
+use Rattle.std.specs.Slice.Iter.{split_done, split_rest}
+use Rattle.std.specs.Iterator.Adapters.{enumerate_source, enumerate_count}
+use Rattle.std.proofs.lemmas.List.Sorted.{answers_always}
+use Rattle.pla_text.specs.Text.{is_newline}
+use Rattle.pla_lines.proofs.Judging.{fault-some}
+use Rattle.pla_lines.proofs.Going.{going-start, going-stop, going-on, going-end, line-next, lines_left}
 use Rattle.pla_lines.proofs.read_lines.Goals as goal
 
-pub loop-head-init : goal.loop-head-init
-loop-head-init c =
-    let args = c.args in
-    (omega arith, omega arith, none-bounded, ([], none-flagged, text-start args.output args.text.now))
-
-pub run_end-end-requires : goal.run_end-end-requires
-run_end-end-requires c = c.loop-head.invariant.0
-
-pub slice_bounds-read_line-end : goal.slice_bounds-read_line-end
-slice_bounds-read_line-end c =
-    let loop = c.loop-head in
-    let run_end = c.run_end-end in
-    (line-inside c.args.text.now loop.from loop.invariant.0 run_end.result run_end.ensures).1
+pub loop-index-init : goal.loop-index-init
+loop-index-init c =
+    let given = c.into_iter-index-iterator.ensures.into_iter_gives in
+    let source = ap enumerate_source given ∙ c.enumerate-index-items.ensures.source in
+    let count : c.into_iter-index-iterator.result.count ≡ 0 = ap enumerate_count given ∙ c.enumerate-index-items.ensures.count in
+    let rest : split_rest c.into_iter-index-iterator.result.iter ≡ c.args.text.now = ap split_rest source ∙ c.split.ensures.rest in
+    let done : split_done c.into_iter-index-iterator.result.iter ≡ false = ap split_done source ∙ c.split.ensures.done in
+    rw (count, rest, done) (going-start c.args.text.now c.args.output)
 
 pub read_line-requires : goal.read_line-requires
-read_line-requires c = c.loop-head.invariant.2
+read_line-requires c =
+    let step = c.in-Some.ensures.steps in
+    let b = c.loop-index.invariant.bounded in
+    record { inputs = b.inputs; given = b.given; outputs = b.outputs; cubes = omega (arith, b.cubes, step.1, step.3) }
 
-pub returns-then-end-text : goal.returns-then-end-text
-returns-then-end-text c =
-    let args = c.args in
-    let loop = c.loop-head in
-    let run_end = c.run_end-end in
-    let read-line = c.read_line in
-    finished args.text.now args.output loop.from loop.invariant.0 run_end.result run_end.ensures loop.number loop.head loop.invariant.3.0 read-line.result
-    (read-line.ensures loop.invariant.3.0 loop.invariant.3.1) loop.invariant.3.2 c.if-end-text.true
+pub returns-in-Err : goal.returns-in-Err
+returns-in-Err c =
+    let step = c.in-Some.ensures.steps in
+    let next = line-next _ _ _ _ _ step.0.0 step.0.1 (step.0.2 is_newline (answers_always _ _ _ (λ f a r g k. (search (rules, tests))))).1 in
+    let going = rw next at c.loop-index.invariant in
+    rw step.1 (going-stop c.args.text.now c.args.output c.loop-index.index-iterator.count c.loop-index.reading c.in-Some.line.now _ going _ _ (fault-some c.in-Err.fault)
+    (c.in-Err.ensures (c.loop-index.index-iterator.count + 1) going.rows going.flagged))
 
-pub slice_bounds-read_line-end-in-loop-head : goal.slice_bounds-read_line-end-in-loop-head
-slice_bounds-read_line-end-in-loop-head c =
-    let loop = c.loop-head in
-    let run_end = c.run_end-end in
-    (line-inside c.args.text.now loop.from loop.invariant.0 run_end.result run_end.ensures).1
+pub loop-index-preserved : goal.loop-index-preserved
+loop-index-preserved c =
+    let step = c.in-Some.ensures.steps in
+    let next = line-next _ _ _ _ _ step.0.0 step.0.1 (step.0.2 is_newline (answers_always _ _ _ (λ f a r g k. (search (rules, tests))))).1 in
+    let going = rw next at c.loop-index.invariant in
+    rw step.2 (going-on c.args.text.now c.args.output c.loop-index.index-iterator.count c.loop-index.reading c.in-Some.line.now _ going _
+    (c.in_default.ensures (c.loop-index.index-iterator.count + 1) going.rows going.flagged))
 
-pub read_line-reading-requires : goal.read_line-reading-requires
-read_line-reading-requires c = c.loop-head.invariant.2
-
-pub returns-then-reading-ne0 : goal.returns-then-reading-ne0
-returns-then-reading-ne0 c =
-    let args = c.args in
-    let loop = c.loop-head in
-    let run_end = c.run_end-end in
-    let read-line = c.read_line-reading in
-    stopped args.text.now args.output loop.from loop.invariant.0 run_end.result run_end.ensures loop.number loop.head loop.invariant.3.0 read-line.result
-    (read-line.ensures loop.invariant.3.0 loop.invariant.3.1) loop.invariant.3.2 c.if-reading-ne0.true
-
-pub overflow_add-from : goal.overflow_add-from
-overflow_add-from c =
-    let args = c.args in
-    let loop = c.loop-head in
-    let run_end = c.run_end-end in
-    omega (arith, (line-inside args.text.now loop.from loop.invariant.0 run_end.result run_end.ensures).1, c.if-end-text.false)
-
-pub overflow_add-number : goal.overflow_add-number
-overflow_add-number c =
-    let loop = c.loop-head in
-    omega (arith, loop.invariant.0, loop.invariant.1)
-
-pub loop-head-smaller : goal.loop-head-smaller
-loop-head-smaller c =
-    let args = c.args in
-    let loop = c.loop-head in
-    let run_end = c.run_end-end in
-    omega (
-      arith,
-      (line-inside args.text.now loop.from loop.invariant.0 run_end.result run_end.ensures).0,
-      (line-inside args.text.now loop.from loop.invariant.0 run_end.result run_end.ensures).1,
-      c.if-end-text.false,
-    )
-
-pub loop-head-preserved : goal.loop-head-preserved
-loop-head-preserved c =
-    let args = c.args in
-    let loop = c.loop-head in
-    let run_end = c.run_end-end in
-    let read-line = c.read_line-reading in
-    let if1 = c.if-end-text in
-    let inside = line-inside args.text.now loop.from loop.invariant.0 run_end.result run_end.ensures in
-    let k = going args.text.now args.output loop.from loop.invariant.0 run_end.result run_end.ensures loop.number loop.head loop.invariant.3.0
-    read-line.result (read-line.ensures loop.invariant.3.0 loop.invariant.3.1) loop.invariant.3.2 loop.invariant.2 c.if-reading-ne0.false
-    (omega (arith, inside.1, if1.false)) in
-    (omega (arith, inside.1, if1.false), omega (arith, inside.0, loop.invariant.1), k.0, k.1)
+pub returns : goal.returns
+returns c =
+    let none : lines_left (split_done c.loop-index.index-iterator.iter) (split_rest c.loop-index.index-iterator.iter) ≡ [] = rw c.in-None.ensures.steps.0.0 refl in
+    going-end c.args.text.now c.args.output c.loop-index.index-iterator.count c.loop-index.reading _ none c.loop-index.invariant

@@ -1,26 +1,26 @@
--- `pla_text::number` meets its contract. The loop's invariant: the digits from its place on complete the number. Assumes nothing.
-use mathlib.Core.Path.{refl, sym, ◌∙◌}
+-- `pla_text::number` meets its contract. The loop's invariant: the digits that are left complete the number. Assumes nothing.
+use mathlib.Core.Path.{sym, ap, ◌∙◌}
 use native.Mathlib.Omega.{arith}
-use lib.ListN.{get_or}
-use Rattle.pla_text.proofs.Digits.{number-next, number-end, with-digit-small}
+use Prim.Native.Nat.{◌+◌}
+use lib.ListN.{drop}
+use Rattle.pla_text.specs.Numbers.{number_from}
+use Rattle.pla_text.proofs.Digits.{number-next, number-none, number-end, digit-small}
 use Rattle.pla_text.proofs.number.Goals as goal
 
-pub loop-i-init : goal.loop-i-init
-loop-i-init c = (omega arith, omega arith, refl)
+pub returns-in_err-value : goal.returns-in_err-value
+returns-in_err-value c =
+    let l = c.loop-byte in
+    let word = c.args.word.now in
+    let none = sym c.with_digit.ensures ∙ c.in_err-value.was in
+    c.from_residual.ensures ∙ sym (ap (λ o. number_from o (drop (l.byte-index + 1) word)) none ∙ number-none (drop (l.byte-index + 1) word))
+    ∙ sym (number-next word l.value l.byte-index (omega arith)) ∙ l.invariant.1
 
-pub with_digit-value-requires : goal.with_digit-value-requires
-with_digit-value-requires c = c.loop-i.invariant.1
-
-pub loop-i-preserved : goal.loop-i-preserved
-loop-i-preserved c =
-    let args = c.args in
-    let with-digit = c.with_digit-value in
-    let l = c.loop-i in
-    let byte = get_or args.word.now l.i 0 in (
-      omega arith,
-      rw with-digit.ensures (with-digit-small l.value byte),
-      rw with-digit.ensures (sym (number-next args.word.now l.value l.i (omega arith)) ∙ l.invariant.2),
-    )
+pub loop-byte-preserved : goal.loop-byte-preserved
+loop-byte-preserved c =
+    let l = c.loop-byte in
+    let word = c.args.word.now in
+    let next = sym c.with_digit.ensures ∙ c.in_ok-value.was in
+    (digit-small l.value _ _ next, sym (ap (λ o. number_from o (drop (l.byte-index + 1) word)) next) ∙ sym (number-next word l.value l.byte-index (omega arith)) ∙ l.invariant.1)
 
 pub returns : goal.returns
-returns c = let l = c.loop-i in sym (number-end c.args.word.now l.value l.i (omega arith)) ∙ l.invariant.2
+returns c = let l = c.loop-byte in sym (number-end c.args.word.now l.value l.byte-index (omega arith)) ∙ l.invariant.1

@@ -1,12 +1,10 @@
--- `pla_text::number` meets its contract. The loop's invariant: the digits from its place on complete the number. Assumes nothing.
+-- `pla_text::number` meets its contract. The loop's invariant: the digits that are left complete the number. Assumes nothing.
 use mathlib.Core.Path.{◌≡◌}
-use Prim.Native.Nat.{◌-◌, ◌≤◌}
-use lib.ListN.{length, drop}
-use Rattle.pla_text.specs.Numbers.{number_from, no_number}
+use Prim.Native.Nat.{◌<◌}
+use lib.ListN.{drop}
+use Rattle.std.proofs.Common.{Some}
+use Rattle.pla_text.specs.Numbers.{number_from, number_limit}
 use Rattle.pla_text.proofs.number.Given as goal
 
-abbrev pub invariant-loop-i : goal.invariant-loop-i
-invariant-loop-i l = (l.i ≤ length l.word) × (l.value ≤ no_number) × (number_from l.value (drop l.i l.word) ≡ number_from 0 l.word)
-
-abbrev pub decreases-loop-i : goal.decreases-loop-i
-decreases-loop-i l = length l.word - l.i
+abbrev pub invariant-loop-byte : goal.invariant-loop-byte
+invariant-loop-byte l = (l.value < number_limit) × (number_from (Some l.value) (drop l.byte-index l.word) ≡ number_from (Some 0) l.word)

@@ -9,4 +9,4 @@ returns-then-words-lt2 c = rw (lt-ltb _ 2 c.if-words-lt2.true)
 
 pub returns : goal.returns
 unfolding chosen_output
-returns c = rw (le-ltb _ 2 c.if-words-lt2.false) c.number.ensures
+returns c = rw (le-ltb _ 2 c.if-words-lt2.false, ← c.number.ensures) c.unwrap_or.ensures

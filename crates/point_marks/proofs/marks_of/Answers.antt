@@ -3,7 +3,6 @@ use mathlib.Core.Path.{◌≡◌, refl, sym, ◌∙◌}
 use mathlib.Core.List.{[]}
 use Prim.Native.Nat.{◌<◌}
 use native.Mathlib.Omega.{arith}
-use borrow.Author.Rules.{rules}
 use lib.Pow.{pow_mono}
 use lib.ListN.{length, drop, get_or, drop_of_length-le, length-set, get_or-map}
 use Rattle.gf2.proofs.Logic.{beq-true}
@@ -15,15 +14,15 @@ use Rattle.point_marks.proofs.Marks.{put_marks, put_next, marks-at}
 use Rattle.point_marks.proofs.marks_of.Goals as goal
 use Rattle.point_marks.proofs.marks_of.Goals.{After-flag_place-place, In-loop-i}
 
-pub record_count-count-requires : goal.record_count-count-requires
-record_count-count-requires c = stored-laid c.args.bytes.now c.requires
+pub record_count-i-end-requires : goal.record_count-i-end-requires
+record_count-i-end-requires c = stored-laid c.args.bytes.now c.requires
 
 pub loop-i-init : goal.loop-i-init
-loop-i-init c = (search rules, c.record_count-count.ensures, refl, refl)
+loop-i-init c = (refl, refl)
 
 -- In the loop: the record is one of the table, and the table is laid out.
 listed : (c : In-loop-i) → let bytes = c.args.bytes.now in LaidOut bytes × (c.loop-i.i < length (marks bytes))
-listed c = (stored-laid c.args.bytes.now c.requires, omega (arith, c.loop-i.invariant.1))
+listed c = (stored-laid c.args.bytes.now c.requires, omega (arith, c.record_count-i-end.ensures))
 
 pub point_at-requires : goal.point_at-requires
 point_at-requires c = let k = listed c in record { laid_out = k.0; i_in_bounds = k.1 }
@@ -49,15 +48,13 @@ loop-i-preserved c =
     let bytes = c.args.bytes.now in
     let loop = c.loop-i in
     let on : c.is_marked.result ≡ (get_or (marks bytes) loop.i no_mark).is_on = c.is_marked.ensures ∙ beq-true (get_or (marks bytes) loop.i no_mark).is_on in (
-      omega arith,
-      loop.invariant.1,
-      simp length-set loop.invariant.2,
-      rw (placed (goal.at.loop-i-preserved c).After-flag_place-place, c.record_mark.ensures, on) (sym (put_next (marks bytes) loop.marks loop.i (listed (goal.at.loop-i-preserved c).In-loop-i).1) ∙ loop.invariant.3),
+      simp length-set loop.invariant.0,
+      rw (placed (goal.at.loop-i-preserved c).After-flag_place-place, c.record_mark.ensures, on) (sym (put_next (marks bytes) loop.marks loop.i (listed (goal.at.loop-i-preserved c).In-loop-i).1) ∙ loop.invariant.1),
     )
 
 pub returns : goal.returns
 unfolding put_marks
 returns c =
     let loop = c.loop-i in
-    let end : drop loop.i (marks c.args.bytes.now) ≡ [] = drop_of_length-le (marks c.args.bytes.now) {i = loop.i} (omega (arith, loop.invariant.1)) in
-    marks-at c.args.bytes.now loop.marks c.requires (rw end at loop.invariant.3)
+    let end : drop loop.i (marks c.args.bytes.now) ≡ [] = drop_of_length-le (marks c.args.bytes.now) {i = loop.i} (omega (arith, c.record_count-i-end.ensures)) in
+    marks-at c.args.bytes.now loop.marks c.requires (rw end at loop.invariant.1)

@@ -1,6 +1,5 @@
 -- `point_marks::marks_of` meets its contract. The loop's invariant: the records from place i on are what is left to be put in. Assumes nothing.
 use mathlib.Core.Path.{◌≡◌}
-use Prim.Native.Nat.{◌≤◌, ◌-◌}
 use lib.ListN.{length, drop, replicate}
 use Rattle.table.specs.Flags.{max_points}
 use Rattle.stored.specs.Marks.{marks}
@@ -9,7 +8,4 @@ use Rattle.point_marks.proofs.Marks.{put_marks}
 use Rattle.point_marks.proofs.marks_of.Given as goal
 
 abbrev pub invariant-loop-i : goal.invariant-loop-i
-invariant-loop-i l = (l.i ≤ l.count) × (l.count ≡ length (marks l.bytes)) × (length l.marks ≡ max_points) × (put_marks (drop l.i (marks l.bytes)) l.marks ≡ put_marks (marks l.bytes) (replicate max_points off_mark))
-
-abbrev pub decreases-loop-i : goal.decreases-loop-i
-decreases-loop-i l = l.count - l.i
+invariant-loop-i l = (length l.marks ≡ max_points) × (put_marks (drop l.i (marks l.bytes)) l.marks ≡ put_marks (marks l.bytes) (replicate max_points off_mark))

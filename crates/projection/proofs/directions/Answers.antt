@@ -1,5 +1,5 @@
 -- `projection::directions` meets its contract: the basis so far is that of the points passed, each XOR the first. Assumes nothing.
-use mathlib.Core.Path.{◌≡◌, sym, ap, ◌∙◌, subst}
+use mathlib.Core.Path.{◌≡◌, refl, sym, ap, ◌∙◌, subst}
 use mathlib.Core.List.{List, [], map}
 use Prim.Native.Nat.{ℕ, ◌+◌, ◌<◌}
 use native.Mathlib.Numerals.{add-one}
@@ -16,23 +16,21 @@ use Rattle.basis.specs.Reduced.{vectors_of, basis_of, Built}
 use Rattle.basis.proofs.Values.{vectors-back, is-basis}
 use Rattle.table.proofs.Table.{inside, inside-at}
 use Rattle.space.specs.Affine.{directions}
-use Rattle.space.proofs.Steps.{directions-take, directions-all, directions-first}
+use Rattle.space.proofs.Steps.{directions-take, directions-all}
 use Rattle.projection.specs.Masks.{differences}
 use Rattle.projection.proofs.Affine.{directions-built}
 use Rattle.projection.proofs.directions.Goals as goal
 
-pub loop-i-init : goal.loop-i-init
-loop-i-init c =
-    (omega arith, is-basis [] tt (λ b m. absurd m), ap basis_of (sym (directions-first c.args.on.now c.requires.on_nonzero)))
+pub loop-p-init : goal.loop-p-init
+unfolding inserts
+loop-p-init c = record { basis = is-basis [] tt (λ b m. absurd m); value = refl }
 
-pub insert-basis-requires : goal.insert-basis-requires
-insert-basis-requires c =
-    let l = c.loop-i in
+pub insert-basis-requires-clause-v_bound : goal.insert-basis-requires-clause-v_bound
+insert-basis-requires-clause-v_bound c =
     let ps = c.args.on.now in
-    record {
-      basis = l.invariant.1;
-      v_bound = xor_lt max_variables (get_or ps l.i 0) (get_or ps 0 0) (inside-at max_variables ps c.requires.on_value l.i (omega arith)) (inside-at max_variables ps c.requires.on_value 0 c.requires.on_nonzero);
-    }
+    let i = c.loop-p.p-index in
+    xor_lt max_variables (get_or ps i 0) (get_or ps 0 0) (inside-at max_variables ps c.requires.points_inside i (omega arith))
+    (inside-at max_variables ps c.requires.points_inside 0 c.requires.some_point)
 
 -- One point passed.
 passed : (ps : List ℕ) (i : ℕ) → i < length ps → (b : Basis) → b ≡ basis_of (inserts [] (map (λ q. q ⊕ get_or ps 0 0) (take i ps)))
@@ -41,17 +39,19 @@ passed ps i h b e =
     let done = inserts [] (map (λ q. q ⊕ get_or ps 0 0) (take i ps)) in
     ap (λ (bs : List ℕ). insert bs (get_or ps i 0 ⊕ get_or ps 0 0)) (ap vectors_of e ∙ vectors-back done) ∙ rw add-one (sym (directions-take (get_or ps 0 0) ps i h))
 
-pub loop-i-preserved : goal.loop-i-preserved
-loop-i-preserved c =
-    let l = c.loop-i in
-    let ps = c.args.on.now in
-    (omega arith, c.insert-basis.ensures.basis, c.insert-basis.ensures.value ∙ ap basis_of (passed ps l.i (omega arith) l.basis l.invariant.2))
+pub loop-p-preserved : goal.loop-p-preserved
+loop-p-preserved c =
+    let l = c.loop-p in
+    record {
+      basis = c.insert-basis.ensures.basis;
+      value = c.insert-basis.ensures.value ∙ ap basis_of (passed c.args.on.now l.p-index (omega arith) l.basis l.invariant.value);
+    }
 
 pub returns : goal.returns
 returns c =
-    let l = c.loop-i in
+    let l = c.loop-p in
     let ps = c.args.on.now in
-    let all : take l.i ps ≡ ps = take_all l.i ps (omega arith) in
+    let all : take l.p-index ps ≡ ps = take_all l.p-index ps (omega arith) in
     subst (λ (b : Basis). Built b (directions ps) (Span (differences ps)))
-    (sym (l.invariant.2 ∙ ap (λ (qs : List ℕ). basis_of (inserts [] (map (λ q. q ⊕ get_or ps 0 0) qs))) all ∙ ap basis_of (directions-all ps c.requires.on_nonzero)))
-    (directions-built ps c.requires.on_nonzero (inside max_variables ps c.requires.on_value))
+    (sym (l.invariant.value ∙ ap (λ (qs : List ℕ). basis_of (inserts [] (map (λ q. q ⊕ get_or ps 0 0) qs))) all ∙ ap basis_of (directions-all ps c.requires.some_point)))
+    (directions-built ps c.requires.some_point (inside max_variables ps c.requires.points_inside))

@@ -3,14 +3,9 @@ use mathlib.Core.Path.{◌≡◌}
 use Prim.Native.Nat.{ℕ, ◌+◌, ◌*◌, ◌/◌, ◌%◌, ◌^◌, ◌<◌}
 use native.Mathlib.Nat.{div-mul-le_self, mod-eq_of_lt}
 use native.Mathlib.Omega.{arith}
-use lib.Pow.{pow_pos}
 use Rattle.gf2.proofs.Xor.{shifted_one}
 use Rattle.projection.specs.Masks.{drop_place}
-use Rattle.projection.proofs.Dropping.{drop_le}
 use Rattle.projection.proofs.drop_place.Goals as goal
-
-pub nonzero_rem-result : goal.nonzero_rem-result
-nonzero_rem-result c = rw (shifted_one c.args.place 16 c.requires) (pow_pos c.args.place)
 
 -- Nothing is lost in 16 bits.
 computed : (place w : ℕ) → place < 16 → w < 2 ^ 16 → w / 2 / 2 ^ place * 2 ^ place % 2 ^ 16 + w % (1 * 2 ^ place % 2 ^ 16) ≡ drop_place place w
@@ -18,11 +13,6 @@ unfolding drop_place
 computed place w p h =
     let whole : w / 2 / 2 ^ place * 2 ^ place < 2 ^ 16 = omega (arith, div-mul-le_self (w / 2) (2 ^ place)) in
     rw (shifted_one place 16 p, mod-eq_of_lt whole)
-
-pub overflow_add-result : goal.overflow_add-result
-overflow_add-result c =
-    let a = c.args in
-    omega (arith, computed a.place a.w c.requires c.ranges.w.fits, drop_le a.place a.w, c.ranges.w.fits)
 
 pub returns : goal.returns
 returns c = computed c.args.place c.args.w c.requires c.ranges.w.fits

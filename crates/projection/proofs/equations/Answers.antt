@@ -35,26 +35,28 @@ loop-k-preserved-then-not-bit c =
     let l = c.loop-k in
     let b = c.args.basis in
     let leads = c.leads-leads in
-    let r = c.bit in
     let p = c.push-found in
     let m = c.equation.result in
     let f = listed l.found ++ (m ∷ []) in
-    let lead = known b c.requires.basis l.k (omega arith) (listed l.found) leads.result leads.ensures r.result r.ensures in (
-      omega arith,
-      omega (arith, short-len p.result f p.ensures, length-append (listed l.found) (m ∷ []), short-len l.found (listed l.found) l.invariant.2),
-      short-again p.result f p.ensures,
-      rw (short-listed p.result f p.ensures, c.equation.ensures)
-          (passed b c.requires.basis l.k (omega arith) (listed l.found) false (lead ∙ c.if-not-bit.true) ∙ l.invariant.3),
-    )
+    let lead = known b c.requires.basis l.k (omega arith) (listed l.found) leads.result leads.ensures c.bit.result c.bit.ensures in
+    record {
+      count = omega (arith, short-len p.result f p.ensures, length-append (listed l.found) (m ∷ []), short-len l.found (listed l.found) l.invariant.packed);
+      packed = short-again p.result f p.ensures;
+      whole = rw (short-listed p.result f p.ensures, c.equation.ensures)
+          (passed b c.requires.basis l.k (omega arith) (listed l.found) false (lead ∙ c.if-not-bit.true) ∙ l.invariant.whole);
+    }
 
 pub loop-k-preserved : goal.loop-k-preserved
 loop-k-preserved c =
     let l = c.loop-k in
     let b = c.args.basis in
     let leads = c.leads-leads in
-    let r = c.bit in
-    let lead = known b c.requires.basis l.k (omega arith) (listed l.found) leads.result leads.ensures r.result r.ensures in
-    (omega arith, omega arith, l.invariant.2, passed b c.requires.basis l.k (omega arith) (listed l.found) true (lead ∙ c.if-not-bit.false) ∙ l.invariant.3)
+    let lead = known b c.requires.basis l.k (omega arith) (listed l.found) leads.result leads.ensures c.bit.result c.bit.ensures in
+    record {
+      count = omega arith;
+      packed = l.invariant.packed;
+      whole = passed b c.requires.basis l.k (omega arith) (listed l.found) true (lead ∙ c.if-not-bit.false) ∙ l.invariant.whole;
+    }
 
 pub returns : goal.returns
 unfolding equations
@@ -62,4 +64,4 @@ returns c =
     let l = c.loop-k in
     let vs = vectors_of c.args.basis in
     let e : l.k ≡ 0 = omega arith in
-    l.invariant.2 ∙ ap short (sym (places-none (equation vs) (λ (j : ℕ). not (is_lead vs j)) (listed l.found)) ∙ (rw e at l.invariant.3))
+    l.invariant.packed ∙ ap short (sym (places-none (equation vs) (λ (j : ℕ). not (is_lead vs j)) (listed l.found)) ∙ (rw e at l.invariant.whole))

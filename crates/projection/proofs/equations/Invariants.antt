@@ -8,8 +8,8 @@ use Rattle.space.specs.Restriction.{equations}
 use Rattle.projection.proofs.equations.Given as goal
 
 abbrev pub invariant-loop-k : goal.invariant-loop-k
-invariant-loop-k l = (l.k ≤ l.n) × (l.found.len + l.k ≤ l.n) × (l.found ≡ short (listed l.found))
-    × (listed l.found ++ equations l.k (vectors_of l.basis) ≡ equations l.n (vectors_of l.basis))
-
-abbrev pub decreases-loop-k : goal.decreases-loop-k
-decreases-loop-k l = l.k
+invariant-loop-k l = record {
+  count : l.found.len + l.k ≤ l.n;
+  packed : l.found ≡ short (listed l.found);
+  whole : listed l.found ++ equations l.k (vectors_of l.basis) ≡ equations l.n (vectors_of l.basis);
+}

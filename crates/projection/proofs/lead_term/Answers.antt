@@ -1,6 +1,6 @@
 -- `projection::lead_term` meets its contract: a shift by the lead gives the lead bit. Assumes nothing.
 use mathlib.Core.Path.{◌≡◌, sym, ◌∙◌}
-use mathlib.Core.Bool.{true, false}
+use mathlib.Core.Bool.{true}
 use Prim.Native.Nat.{ℕ, ◌^◌, ◌<◌}
 use native.Mathlib.Omega.{arith}
 use Rattle.gf2.specs.Limits.{max_variables}
@@ -23,8 +23,3 @@ pub returns-then-bit : goal.returns-then-bit
 returns-then-bit c =
     let here : bit c.args.place c.args.b ≡ true = sym c.bit.ensures ∙ c.if-bit.true in
     rw (here, c.lead.ensures) (shifted_one (lead c.args.b) 16 (omega (arith, low c.args.b c.requires.b_nonzero)))
-
-pub returns-else-bit : goal.returns-else-bit
-returns-else-bit c =
-    let here : bit c.args.place c.args.b ≡ false = sym c.bit.ensures ∙ c.if-bit.false in
-    rw here

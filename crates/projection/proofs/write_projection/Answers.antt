@@ -1,14 +1,14 @@
 -- `projection::write_projection` meets its contract: after i turns the i first points of the answer are written. Assumes nothing.
 use mathlib.Core.Path.{◌≡◌, ap, ◌∙◌}
 use mathlib.Core.List.{List}
-use Prim.Native.Nat.{ℕ, ◌+◌, ◌-◌, ◌^◌, ◌≤◌, ◌<◌}
+use Prim.Native.Nat.{ℕ, ◌+◌, ◌-◌, ◌^◌, ◌<◌}
 use native.Mathlib.Omega.{arith}
 use lib.ListN.{length, take, set, get_or, get_or-map}
 use lib.Pow.{pow_pos}
 use Rattle.gf2.specs.Bits.{◌⊕◌}
 use Rattle.table.specs.Decision.{front}
 use Rattle.table.proofs.Table.{inside-at}
-use Rattle.table.proofs.Fill.{fill-next, fill-part, fill-all}
+use Rattle.table.proofs.Fill.{fill-next, fill-all}
 use Rattle.space.specs.Restriction.{project}
 use Rattle.projection.specs.Masks.{places_set, places_clear, projected}
 use Rattle.projection.proofs.Masks.{projected-length, turned_set}
@@ -17,17 +17,9 @@ use Rattle.projection.proofs.write_projection.Goals as goal
 pub overflow_sub-all : goal.overflow_sub-all
 overflow_sub-all c = omega (arith, c.point_count-all.ensures, pow_pos c.args.n)
 
--- In a turn: the room so far, and the places that are dropped, which are those clear in the lead mask.
-so_far : (n leads : ℕ) (on room now : List ℕ) (i : ℕ) → i ≤ length on → length on ≤ length room → now ≡ front (take i (projected n leads on)) room
-    → length now ≡ length room
-so_far n leads on room now i h k e = ap length e ∙ fill-part (projected n leads on) room i (omega (arith, projected-length n leads on))
-
+-- The places that are dropped are those clear in the lead mask.
 dropped : (n leads size : ℕ) → size ≡ 2 ^ n → places_clear n (leads ⊕ (size - 1)) ≡ places_set n leads
 dropped n leads size e = ap (λ (s : ℕ). places_clear n (leads ⊕ (s - 1))) e ∙ turned_set n leads
-
-pub bounds-room-i : goal.bounds-room-i
-bounds-room-i c =
-    omega (arith, so_far c.args.n c.args.leads c.args.on.now c.args.room.now c.loop-i.room c.loop-i.i c.loop-i.invariant.0 c.requires.on_in_bounds c.loop-i.invariant.1)
 
 -- One point passed.
 passed : (n leads : ℕ) (ps room : List ℕ) (i : ℕ) → i < length ps → i < length room
@@ -42,14 +34,10 @@ loop-i-preserved c =
     let n = c.args.n in
     let leads = c.args.leads in
     let on = c.args.on.now in
-    let below = inside-at n on c.requires.on_value i (omega arith) in
+    let below = inside-at n on c.requires.points_inside i (omega arith) in
     let e = c.drop_places.ensures n below ∙ ap (λ (ks : List ℕ). project ks (get_or on i 0)) (dropped n leads c.point_count-all.result c.point_count-all.ensures) in
-    (omega arith, rw (c.loop-i.invariant.1, e) (passed n leads on c.args.room.now i (omega arith) (omega arith)))
-
-pub shape_of-room : goal.shape_of-room
-shape_of-room c =
-    so_far c.args.n c.args.leads c.args.on.now c.args.room.now c.loop-i.room c.loop-i.i c.loop-i.invariant.0 c.requires.on_in_bounds c.loop-i.invariant.1
+    rw (c.loop-i.invariant, e) (passed n leads on c.args.room.now i (omega arith) (omega arith))
 
 pub returns : goal.returns
 returns c =
-    c.loop-i.invariant.1 ∙ fill-all (projected c.args.n c.args.leads c.args.on.now) c.args.room.now c.loop-i.i (rw projected-length (omega arith))
+    c.loop-i.invariant ∙ fill-all (projected c.args.n c.args.leads c.args.on.now) c.args.room.now c.loop-i.i (rw projected-length (omega arith))

@@ -1,6 +1,6 @@
 -- `space::grown` meets its contract: the search over one vector finds no witness exactly if the function is closed under it. Assumes nothing.
 use mathlib.Core.Path.{◌≡◌, refl, sym, ap, ◌∙◌, subst}
-use mathlib.Core.Bool.{Bool, true, false}
+use mathlib.Core.Bool.{Bool, true, false, not}
 use mathlib.Core.Logic.{inl, inr}
 use mathlib.Core.List.{List, [], ◌∷◌}
 use Prim.Native.Nat.{ℕ, ◌+◌, ◌^◌, ◌<◌}
@@ -14,24 +14,18 @@ use Rattle.gf2.proofs.Insert.{inserts-on, inserts-off}
 use Rattle.basis.specs.declared.Basis.{Basis}
 use Rattle.basis.specs.Reduced.{vectors_of, basis_of}
 use Rattle.basis.proofs.Values.{vectors-back, select-basis}
-use Rattle.space.specs.declared.Witness.{Witness}
-use Rattle.space.specs.declared.Witness.TheVariants.{At, None}
+use Rattle.std.specs.Prelude.{Option, Some, None}
+use Rattle.std.specs.Option.{is_some}
 use Rattle.space.specs.Closure.{closed}
-use Rattle.space.specs.Witness.{flagged, FirstWitness, Answers}
+use Rattle.space.specs.Witness.{flagged, Answers}
 use Rattle.space.proofs.Closure.{closed_of, closed-broken}
 use Rattle.space.proofs.grown.Goals as goal
 
 -- What the search over the one vector v says of it.
-module _ (n : ℕ) (f : ℕ → Bool) (v : ℕ) (w : Witness) (h : Answers f (2 ^ n) (v ∷ []) w) where
-  none-closed : w ≡ None → closed n f v ≡ true
-  none-closed e =
-      let g : Answers f (2 ^ n) (v ∷ []) None = rw e at h in
-      closed_of n f v (g v (inl refl))
-
-  witness-broken : (a p : ℕ) → w ≡ At a p → closed n f v ≡ false
-  witness-broken a p e =
-      let g : FirstWitness f (2 ^ n) (v ∷ []) a p = rw e at h in
-      subst (λ (u : ℕ). closed n f u ≡ false) (elim g.vector [ inl q ↦ q | inr m ↦ absurd m ]) (closed-broken n f a p g.point g.breaks)
+searched : (n : ℕ) (f : ℕ → Bool) (v : ℕ) (w : Option (ℕ × ℕ)) → Answers f (2 ^ n) (v ∷ []) w → closed n f v ≡ not (is_some w)
+searched n f v None h = closed_of n f v (h v (inl refl))
+searched n f v (Some (a, p)) h =
+    subst (λ (u : ℕ). closed n f u ≡ false) (elim h.vector [ inl q ↦ q | inr m ↦ absurd m ]) (closed-broken n f a p h.point h.breaks)
 
 -- The vectors below v that pass a test, put in one at a time, and the next one.
 module _ (f : ℕ → Bool) (v : ℕ) (b : Basis) (e : b ≡ basis_of (inserts [] (select f v))) where
@@ -48,22 +42,26 @@ first_witness-requires c =
       searchable = record { rises = (λ b m. absurd m, tt); below = λ u m. elim m [ inl e ↦ rw e c.requires.v_bound | inr k ↦ absurd k ] };
     }
 
-pub returns-in_default : goal.returns-in_default
-returns-in_default c =
+pub returns-then-is_some : goal.returns-then-is_some
+returns-then-is_some c =
     let a = c.args in
-    kept (closed a.n (flagged a.flags.now)) a.v a.basis c.requires.basis_value
-    (witness-broken a.n (flagged a.flags.now) a.v c.first_witness.result c.first_witness.ensures _ _ c.in_default.is)
+    let f = flagged a.flags.now in
+    let w = c.first_witness in
+    kept (closed a.n f) a.v a.basis c.requires.closed_below
+    (searched a.n f a.v w.result w.ensures ∙ ap not (sym c.is_some.ensures ∙ c.if-is_some.true))
 
 pub insert-requires : goal.insert-requires
 insert-requires c =
     let l : c.args.v < 2 ^ max_variables = omega (arith, pow_mono c.requires.n_le_max_variables) in
     record {
-      basis = select-basis (closed c.args.n (flagged c.args.flags.now)) c.args.v (omega arith) c.args.basis c.requires.basis_value;
+      basis = select-basis (closed c.args.n (flagged c.args.flags.now)) c.args.v (omega arith) c.args.basis c.requires.closed_below;
       v_bound = l;
     }
 
 pub returns : goal.returns
 returns c =
     let a = c.args in
-    joined (closed a.n (flagged a.flags.now)) a.v a.basis c.requires.basis_value c.insert.result c.insert.ensures.value
-    (none-closed a.n (flagged a.flags.now) a.v c.first_witness.result c.first_witness.ensures c.in-None.is)
+    let f = flagged a.flags.now in
+    let w = c.first_witness in
+    joined (closed a.n f) a.v a.basis c.requires.closed_below c.insert.result c.insert.ensures.value
+    (searched a.n f a.v w.result w.ensures ∙ ap not (sym c.is_some.ensures ∙ c.if-is_some.false))

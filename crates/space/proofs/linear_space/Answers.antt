@@ -8,9 +8,7 @@ use Prim.Native.Nat.{ℕ, ◌+◌, ◌^◌, ◌≤◌, ◌<◌}
 use native.Mathlib.Numerals.{add-one}
 use native.Mathlib.Omega.{arith}
 use lib.Bits.{bit_and}
-use lib.ListN.{length, take}
 use lib.Pow.{pow_mono, pow-lt}
-use borrow.Author.Rules.{rules}
 use Rattle.gf2.specs.Limits.{max_variables}
 use Rattle.gf2.specs.Bits.{lead}
 use Rattle.gf2.specs.Finite.{Mem, select, In}
@@ -18,19 +16,17 @@ use Rattle.gf2.specs.Basis.{inserts, units, lead_mask}
 use Rattle.gf2.proofs.Leads.{lead-fits, lead-pow}
 use Rattle.gf2.proofs.Reduce.{reduced-pos, reduced-rising}
 use Rattle.gf2.proofs.Insert.{inserts-reduced, inserts-off, inserts-reducible}
-use Rattle.gf2.proofs.ReducedBasis.{units-mem, mem-units, units-below, units-reduced, units-inserts, units-length}
+use Rattle.gf2.proofs.ReducedBasis.{units-mem, mem-units, units-below, units-reduced, units-inserts}
 use Rattle.basis.specs.declared.Basis.{Basis}
-use Rattle.basis.specs.Short.{padded}
 use Rattle.basis.specs.Reduced.{vectors_of, basis_of, Built}
 use Rattle.basis.proofs.Values.{vectors-back, built, select-basis}
-use Rattle.space.specs.declared.Witness.{Witness}
-use Rattle.space.specs.declared.Witness.TheVariants.{At, None}
+use Rattle.std.specs.Prelude.{Option, None}
 use Rattle.space.specs.Closure.{closed, linear_space}
 use Rattle.space.specs.Witness.{flagged, FirstWitness, Answers, Searchable}
 use Rattle.space.proofs.Closure.{closed_of, closed-broken, closed-space, closed-units, linear-reduced, linear-span, linear-below, linear-inserts}
 use Rattle.space.proofs.Steps.{mask-reducible}
 use Rattle.space.proofs.linear_space.Goals as goal
-use Rattle.space.proofs.linear_space.Goals.{then-leads-v-eq0, else-leads-v-eq0}
+use Rattle.space.proofs.linear_space.Goals.{In-Some, then-leads-v-eq0, else-leads-v-eq0}
 
 -- The basis of the vectors below v under which the function is closed.
 abbrev ClosedBelow : ℕ → (ℕ → Bool) → ℕ → Basis → Type 0
@@ -38,9 +34,8 @@ ClosedBelow n f v b = b ≡ basis_of (inserts [] (select (closed n f) v))
 
 -- ---- the search over the full basis
 -- Its vectors, as they are lent.
-lent : (n : ℕ) (b : Basis) → b ≡ basis_of (units n) → take n b.vectors ≡ units n
-lent n b e =
-    ap (λ (x : Basis). take n x.vectors) e ∙ subst (λ (k : ℕ). take k (padded (units n)) ≡ units n) (units-length n) (vectors-back (units n))
+lent : (n : ℕ) (b : Basis) → b ≡ basis_of (units n) → vectors_of b ≡ units n
+lent n b e = ap vectors_of e ∙ vectors-back (units n)
 
 searchable : (n : ℕ) → Searchable n (units n)
 searchable n = record { rises = reduced-rising (units n) (units-reduced n); below = units-below n }
@@ -94,87 +89,46 @@ module _ (n : ℕ) (f : ℕ → Bool) where
       (built (linear_space n f) (In n (closed n f)) (linear-reduced n f) (λ c m. omega (arith, linear-below n f c m, pow_mono few)) (linear-span n f))
 
 -- ---- the answers
-pub slice_bounds-units-end : goal.slice_bounds-units-end
-slice_bounds-units-end c = let room : length c.full-full.result.vectors ≡ max_variables = search rules in omega arith
-
-pub slice_bounds-first_witness-end : goal.slice_bounds-first_witness-end
-slice_bounds-first_witness-end c =
-    let n = c.args.n in
-    let f = c.full-full in
-    sym (ap length (lent n f.result f.ensures.value) ∙ units-length n)
-
 pub first_witness-requires : goal.first_witness-requires
 first_witness-requires c =
+    let n = c.args.n in
     let f = c.full-full in
-    record { n_le_max_variables = c.requires; searchable = rw (lent c.args.n f.result f.ensures.value) (searchable c.args.n) }
+    record { n_le_max_variables = c.requires; searchable = rw (c.as_slice.ensures, lent n f.result f.ensures.value) (searchable n) }
 
 -- What the search over the full basis found.
-answered : (n : ℕ) (f : ℕ → Bool) (b : Basis) (w : Witness) → b ≡ basis_of (units n) → Answers f (2 ^ n) (take n b.vectors) w → Answers f (2 ^ n) (units n) w
-answered n f b w e h = subst (λ (vs : List ℕ). Answers f (2 ^ n) vs w) (lent n b e) h
-
--- It is a witness at a.
-witnessed : (n : ℕ) (f : ℕ → Bool) (b : Basis) (w : Witness) (a p : ℕ) → w ≡ At a p → b ≡ basis_of (units n) → Answers f (2 ^ n) (take n b.vectors) w
-    → FirstWitness f (2 ^ n) (units n) a p
-witnessed n f b w a p q e h = rw q at (answered n f b w e h)
+answered : (n : ℕ) (f : ℕ → Bool) (b : Basis) (vs : List ℕ) (w : Option (ℕ × ℕ)) → vs ≡ vectors_of b → b ≡ basis_of (units n) → Answers f (2 ^ n) vs w
+    → Answers f (2 ^ n) (units n) w
+answered n f b vs w q e h = subst (λ (us : List ℕ). Answers f (2 ^ n) us w) (q ∙ lent n b e) h
 
 pub returns-in_default : goal.returns-in_default
 returns-in_default c =
     let n = c.args.n in
     let f = flagged c.args.flags.now in
     let full = c.full-full in
-    let w = answered n f full.result c.first_witness.result full.ensures.value c.first_witness.ensures in
+    let w = answered n f full.result _ c.first_witness.result c.as_slice.ensures full.ensures.value c.first_witness.ensures in
     whole n f c.requires full.result (full.ensures.value ∙ ap basis_of (none-full n f (rw c.in_default.is at w)))
 
-pub lead-requires : goal.lead-requires
-lead-requires c =
-    let n = c.args.n in
-    let f = flagged c.args.flags.now in
+-- It is a witness, so its vector is none of 0 and has n variables.
+found : (c : In-Some) → FirstWitness (flagged c.args.flags.now) (2 ^ c.args.n) (units c.args.n) c.in-Some.a c.in-Some.field-0-1
+found c =
     let full = c.full-full in
-    let w = witnessed n f full.result c.first_witness.result _ _ c.in-At.is full.ensures.value c.first_witness.ensures in
-    pos n f c.in-At.a c.in-At.field-1 w
+    rw c.in-Some.is at (answered c.args.n (flagged c.args.flags.now) full.result _ c.first_witness.result c.as_slice.ensures full.ensures.value c.first_witness.ensures)
 
-pub full-basis-requires : goal.full-basis-requires
-full-basis-requires c =
-    let n = c.args.n in
-    let f = flagged c.args.flags.now in
-    let full = c.full-full in
-    let a = c.in-At.a in
-    let p = c.in-At.field-1 in
-    let w = witnessed n f full.result c.first_witness.result _ _ c.in-At.is full.ensures.value c.first_witness.ensures in
-    omega (arith, c.lead.ensures, lead-fits n a (pos n f a p w) (low n f a p w), c.requires)
+found-low : (c : In-Some) → c.in-Some.a < 2 ^ c.args.n
+found-low c = low c.args.n (flagged c.args.flags.now) c.in-Some.a c.in-Some.field-0-1 (found c)
 
-pub overflow_add-v : goal.overflow_add-v
-overflow_add-v c =
-    let n = c.args.n in
-    let f = flagged c.args.flags.now in
-    let full = c.full-full in
-    let w = witnessed n f full.result c.first_witness.result _ _ c.in-At.is full.ensures.value c.first_witness.ensures in
-    omega (arith, low n f c.in-At.a c.in-At.field-1 w, pow_mono c.requires)
+found-pos : (c : In-Some) → 0 < c.in-Some.a
+found-pos c = pos c.args.n (flagged c.args.flags.now) c.in-Some.a c.in-Some.field-0-1 (found c)
 
-pub loop-v-init : goal.loop-v-init
-loop-v-init c =
-    let n = c.args.n in
-    let f = flagged c.args.flags.now in
-    let full = c.full-full in
-    let a = c.in-At.a in
-    let p = c.in-At.field-1 in
-    let w = witnessed n f full.result c.first_witness.result _ _ c.in-At.is full.ensures.value c.first_witness.ensures in
-    let b = c.full-basis in (
-      started n f a p w b.result (b.ensures.value ∙ ap (λ (j : ℕ). basis_of (units j)) c.lead.ensures),
-      c.leads-leads.ensures,
-      omega arith,
-      omega (arith, low n f a p w),
-    )
+pub overflow_step-v : goal.overflow_step-v
+overflow_step-v c = omega (arith, found-low (goal.at.overflow_step-v c).In-Some, pow_mono c.requires)
 
 pub grown-basis-requires : goal.grown-basis-requires
-grown-basis-requires c = record { n_le_max_variables = c.requires; v_bound = omega arith; basis_value = c.loop-v.invariant.0 }
+grown-basis-requires c = record { n_le_max_variables = c.requires; v_bound = omega arith; closed_below = c.loop-v.invariant.0 }
 
 pub leads-leads-requires-then-leads-v-eq0 : goal.leads-leads-requires-then-leads-v-eq0
 leads-leads-requires-then-leads-v-eq0 c =
     select-basis (closed c.args.n (flagged c.args.flags.now)) (c.loop-v.v + 1) (omega (arith, pow_mono c.requires)) c.grown-basis.result c.grown-basis.ensures
-
-pub overflow_add-v-in-loop-v : goal.overflow_add-v-in-loop-v
-overflow_add-v-in-loop-v c = omega (arith, pow_mono c.requires)
 
 pub loop-v-preserved : goal.loop-v-preserved
 loop-v-preserved c =
@@ -184,22 +138,34 @@ loop-v-preserved c =
       | then-leads-v-eq0 w ↦ (
         w.basis-is ∙ w.grown-basis.ensures,
         w.leads-is ∙ w.leads-leads-then-leads-v-eq0.ensures ∙ mask _ _ w.basis-is,
-        omega arith,
-        omega arith,
       )
       | else-leads-v-eq0 w ↦ (
         w.basis-is ∙ skipped c.args.n (flagged c.args.flags.now) h.v h.basis (omega arith) h.invariant.0
             (λ e. w.if-leads-v-eq0.false (ap (λ (m : ℕ). bit_and m h.v) h.invariant.1 ∙ e)),
         w.leads-is ∙ h.invariant.1 ∙ mask _ _ w.basis-is,
-        omega arith,
-        omega arith,
       )
     ]
+
+pub lead-requires : goal.lead-requires
+lead-requires c = found-pos (goal.at.lead-requires c).In-Some
+
+pub full-basis-requires : goal.full-basis-requires
+full-basis-requires c =
+    let p = (goal.at.full-basis-requires c).In-Some in
+    omega (arith, c.lead.ensures, lead-fits c.args.n c.in-Some.a (found-pos p) (found-low p), c.requires)
+
+pub loop-v-init : goal.loop-v-init
+loop-v-init c =
+    let b = c.full-basis in (
+      started c.args.n (flagged c.args.flags.now) c.in-Some.a c.in-Some.field-0-1 (found (goal.at.loop-v-init c).In-Some) b.result
+          (b.ensures.value ∙ ap (λ (j : ℕ). basis_of (units j)) c.lead.ensures),
+      c.leads-leads.ensures,
+    )
 
 pub returns : goal.returns
 returns c =
     let h = c.loop-v in
     let n = c.args.n in
     let f = flagged c.args.flags.now in
-    let e : h.v ≡ 2 ^ n = omega arith in
+    let e : h.v ≡ 2 ^ n = omega (arith, found-low (goal.at.returns c).In-Some) in
     whole n f c.requires h.basis (h.invariant.0 ∙ ap (λ (k : ℕ). basis_of (inserts [] (select (closed n f) k))) e ∙ ap basis_of (linear-inserts n f))

@@ -2,7 +2,6 @@
 -- and the mask has its lead bits. Assumes nothing.
 use mathlib.Core.Path.{◌≡◌}
 use mathlib.Core.List.{[]}
-use Prim.Native.Nat.{◌-◌, ◌^◌, ◌≤◌, ◌<◌}
 use Rattle.gf2.specs.Finite.{select}
 use Rattle.gf2.specs.Basis.{inserts, lead_mask}
 use Rattle.basis.specs.Reduced.{vectors_of, basis_of}
@@ -11,7 +10,4 @@ use Rattle.space.specs.Witness.{flagged}
 use Rattle.space.proofs.linear_space.Given as goal
 
 abbrev pub invariant-loop-v : goal.invariant-loop-v
-invariant-loop-v l = (l.basis ≡ basis_of (inserts [] (select (closed l.n (flagged l.flags)) l.v))) × (l.leads ≡ lead_mask (vectors_of l.basis)) × (l.a < l.v) × (l.v ≤ 2 ^ l.n)
-
-abbrev pub decreases-loop-v : goal.decreases-loop-v
-decreases-loop-v l = 2 ^ l.n - l.v
+invariant-loop-v l = (l.basis ≡ basis_of (inserts [] (select (closed l.n (flagged l.flags)) l.v))) × (l.leads ≡ lead_mask (vectors_of l.basis))

@@ -10,12 +10,11 @@ use Rattle.subspace_search.proofs.Longest.{longest-largest}
 use Rattle.subspace_search.proofs.Steps.{longer-none}
 use Rattle.subspace_search.proofs.largest_in.Goals as goal
 
-pub search-found-requires : goal.search-found-requires
-search-found-requires c = record {
+pub search-len-requires : goal.search-len-requires
+search-len-requires c = record {
   best_value = refl;
   prefix_value = refl;
   n_le_set_variables = (c.requires.n_le_set_variables, omega arith);
-  words_value = c.following_words-words.ensures;
 }
 
 pub returns : goal.returns
@@ -23,4 +22,4 @@ returns c =
     let n = c.args.n in
     let set = member c.args.set.now in
     let taken : ShortList → Basis = λ l. record { vectors = l.values; len = l.len } in
-    ap taken c.search-found.ensures ∙ ap basis_of (longer-none (longest n n set) ∙ longest-largest n set c.requires.set_value)
+    ap taken c.search-len.ensures ∙ ap basis_of (longer-none (longest n n set) ∙ longest-largest n set c.requires.set_value)

@@ -39,17 +39,13 @@ module _ (set moved closed after found : List ℕ) (b : ℕ) (l : length closed 
       r x ∙ after-at x ∙ ap (λ (t : Bool). t && (ltb b x && not (has_lead b x))) (closed_at x)
       ∙ and_assoc (member set x) (member set (x ⊕ b)) (ltb b x && not (has_lead b x))
 
-pub following-after-requires : goal.following-after-requires
-following-after-requires c =
-    record {
-      words_value = c.requires.words_value;
-      place_lt_set_variables = omega (arith, c.lead.ensures, lead-fits set_variables c.args.b c.requires.b_nonzero.0 c.requires.b_nonzero.1);
-    }
+pub following-requires : goal.following-requires
+following-requires c = omega (arith, c.lead.ensures, lead-fits set_variables c.args.b c.requires.0 c.requires.1)
 
 pub returns : goal.returns
 returns c =
     let long : length c.both-with_sums.result ≡ 4 = search rules in
-    narrowed_at c.args.set.now c.moved_set-moved.result c.both-with_sums.result c.following-after.result c.both.result c.args.b long c.requires.b_nonzero.0
+    narrowed_at c.args.set.now c.moved_set-moved.result c.both-with_sums.result c.following.result.now c.both.result c.args.b long c.requires.0
     c.moved_set-moved.ensures c.both-with_sums.ensures
-    (subst (λ (k : ℕ). (x : ℕ) → x < set_size → member c.following-after.result x ≡ leb (2 ^ (k + 1)) x && not (bit k x)) c.lead.ensures c.following-after.ensures)
+    (subst (λ (k : ℕ). (x : ℕ) → x < set_size → member c.following.result.now x ≡ leb (2 ^ (k + 1)) x && not (bit k x)) c.lead.ensures c.following.ensures)
     c.both.ensures

@@ -1,33 +1,23 @@
--- `table::outside` meets its contract. The loop's invariant: the points from place i on decide the answer. Assumes nothing.
-use mathlib.Core.Path.{◌≡◌, refl, sym, ◌∙◌}
-use mathlib.Core.List.{[]}
-use Prim.Native.Nat.{◌≤◌, ◌<◌, ◌-◌, ◌^◌}
-use native.Mathlib.Omega.{arith}
-use lib.ListN.{drop_of_length-le, drop, get_or}
-use borrow.Author.Tests.{le-leb, lt-leb}
+-- `table::outside` meets its contract: it asks of each point what `outside` asks. Assumes nothing.
+use mathlib.Core.Path.{◌≡◌, refl, ap, ◌∙◌}
+use mathlib.Core.Bool.{◌||◌}
+use mathlib.Core.List.{List, [], ◌∷◌}
+use Prim.Native.Nat.{ℕ, ◌^◌}
+use lib.Dec.{leb}
+use borrow.Author.Tests.{tests}
 use borrow.Author.Rules.{rules}
+use Rattle.std.specs.List.{list_any}
+use Rattle.std.proofs.lemmas.Iterator.{YieldsList-from_slice}
+use Rattle.std.proofs.lemmas.Iterator.Search.{any_from_yields_List}
 use Rattle.table.specs.Table.{outside}
-use Rattle.table.proofs.Table.{outside-next}
 use Rattle.table.proofs.outside.Goals as goal
 
-pub loop-i-init : goal.loop-i-init
-loop-i-init c = (search rules, refl)
-
-pub returns-then-points-i : goal.returns-then-points-i
-returns-then-points-i c =
-    let loop = c.loop-i in
-    let above : 2 ^ c.args.n ≤ get_or c.args.points.now loop.i 0 = omega arith in
-    sym (sym loop.invariant.1 ∙ (rw (le-leb _ _ above) at (outside-next c.args.n c.args.points.now loop.i (omega arith))))
-
-pub loop-i-preserved : goal.loop-i-preserved
-loop-i-preserved c =
-    let loop = c.loop-i in
-    let below : get_or c.args.points.now loop.i 0 < 2 ^ c.args.n = omega arith in
-    (omega arith, sym (rw (lt-leb _ _ below) at (outside-next c.args.n c.args.points.now loop.i (omega arith))) ∙ loop.invariant.1)
+any-outside : (n : ℕ) (points : List ℕ) → list_any (λ p. leb (2 ^ n) p) points ≡ outside n points
+unfolding outside
+any-outside n [] = refl
+any-outside n (p ∷ ps) = ap (λ rest. leb (2 ^ n) p || rest) (any-outside n ps)
 
 pub returns : goal.returns
-unfolding outside
 returns c =
-    let loop = c.loop-i in
-    let end : drop loop.i c.args.points.now ≡ [] = drop_of_length-le c.args.points.now {i = loop.i} (omega arith) in
-    rw end at loop.invariant.1
+    any_from_yields_List (λ p. leb (2 ^ c.args.n) p) _ _ _ c.any.ensures.ran (YieldsList-from_slice c.args.points.now cc) (λ x b q k. search (rules, tests))
+    ∙ any-outside c.args.n c.args.points.now

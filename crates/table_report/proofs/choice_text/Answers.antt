@@ -1,43 +1,54 @@
 -- `table_report::choice_text` meets its contract: the lines of the primes passed are written. Assumes nothing.
+use mathlib.Core.Path.{◌≡◌, sym, ap, subst}
+use Prim.Native.Nat.{◌<◌}
 use native.Mathlib.Omega.{arith}
+use lib.ListN.{get_or}
 use Rattle.basis.specs.Short.{listed}
-use Rattle.choice.specs.Chosen.{chosen_at}
-use Rattle.text.proofs.Writing.{room-piece, wrote_none, wrote-length, wrote-piece, wrote_pieces}
+use Rattle.choice.specs.declared.Prime.{Prime}
+use Rattle.choice.specs.Search.{candidate_of, PrimeAt}
+use Rattle.choice.specs.Chosen.{no_prime, prime_in, chosen_at}
+use Rattle.choice.proofs.Products.{item-below, item-at}
+use Rattle.text.proofs.Writing.{with-none, fits-piece, wrote-piece, wrote-pieces, fits-same, wrote-same}
 use Rattle.lines.specs.Lines.{product_line}
 use Rattle.cover.specs.WrittenForm.{product_by}
 use Rattle.table_report.proofs.Parts.{choice-pieces}
 use Rattle.table_report.proofs.choice_text.Goals as goal
+use Rattle.table_report.proofs.choice_text.Goals.{In-loop-prime}
 
-pub loop-i-init : goal.loop-i-init
-loop-i-init c = (omega arith, wrote_none _ _)
+pub loop-prime-init : goal.loop-prime-init
+loop-prime-init c = with-none _
 
-pub bounds-degrees-i : goal.bounds-degrees-i
-bounds-degrees-i c = omega (arith, c.requires.choice.few)
+-- The prime at the index is that of the choice.
+below : (c : In-loop-prime) → c.loop-prime.prime-index < c.args.choice.now.count
+below c = item-below c.args.choice.now c.as_slice-prime-items.result.now c.as_slice-prime-items.ensures.primes c.loop-prime.prime-index c.loop-prime-test.true
 
-pub bounds-points-i : goal.bounds-points-i
-bounds-points-i c = omega (arith, c.requires.choice.few)
+same : (c : In-loop-prime) → get_or c.as_slice-prime-items.result.now c.loop-prime.prime-index no_prime ≡ prime_in c.args.choice.now c.loop-prime.prime-index
+same c = item-at c.args.choice.now c.as_slice-prime-items.result.now c.as_slice-prime-items.ensures.primes c.loop-prime.prime-index c.loop-prime-test.true
 
-pub bounds-entries-i : goal.bounds-entries-i
-bounds-entries-i c = omega (arith, c.requires.choice.few)
+pub chosen_line-requires-clause-prime_at : goal.chosen_line-requires-clause-prime_at
+chosen_line-requires-clause-prime_at c =
+    let p = (goal.at.chosen_line-requires-clause-prime_at c).In-loop-prime in
+    subst (PrimeAt c.args.m) (sym (same p)) (c.requires.choice.entry c.loop-prime.prime-index (below p))
 
-pub chosen_line-next-requires : goal.chosen_line-next-requires
-chosen_line-next-requires c =
-    let l = c.loop-i in
+pub chosen_line-requires-clause-fits : goal.chosen_line-requires-clause-fits
+chosen_line-requires-clause-fits c =
+    let p = (goal.at.chosen_line-requires-clause-fits c).In-loop-prime in
+    let l = c.loop-prime in
     let a = c.args in
-    let r = room-piece (λ k. product_line a.n (product_by (listed a.equations) a.m (chosen_at a.choice k))) l.i a.choice.count (choice-pieces a.n (listed a.equations) a.m a.choice) c.requires.has_room (omega arith) l.invariant.1 in
-    record { n_le_max_variables = c.requires.n_le_max_variables; equations_value = c.requires.equations_value; entry_at = c.requires.choice.entry l.i (omega arith); has_room = r }
+    fits-same (ap (λ (z : Prime). product_line a.n (product_by (listed a.equations) a.m (candidate_of z))) (sym (same p)))
+    (fits-piece _ (λ k. product_line a.n (product_by (listed a.equations) a.m (chosen_at a.choice.now k))) l.prime-index l.invariant a.choice.now.count (choice-pieces a.n (listed a.equations) a.m a.choice.now) c.requires.fits (below p))
 
-pub loop-i-preserved : goal.loop-i-preserved
-loop-i-preserved c =
-    let l = c.loop-i in
+pub loop-prime-preserved : goal.loop-prime-preserved
+loop-prime-preserved c =
+    let p = (goal.at.loop-prime-preserved c).In-loop-prime in
+    let l = c.loop-prime in
     let a = c.args in
-    (omega arith, wrote-piece (λ k. product_line a.n (product_by (listed a.equations) a.m (chosen_at a.choice k))) l.i l.invariant.1 c.chosen_line-next.ensures)
-
-pub shape_of-room : goal.shape_of-room
-shape_of-room c = wrote-length c.loop-i.invariant.1
+    wrote-piece _ (λ k. product_line a.n (product_by (listed a.equations) a.m (chosen_at a.choice.now k))) l.prime-index l.invariant
+    (wrote-same _ (ap (λ (z : Prime). product_line a.n (product_by (listed a.equations) a.m (candidate_of z))) (same p)) c.chosen_line.ensures)
 
 pub returns : goal.returns
 returns c =
-    let l = c.loop-i in
+    let l = c.loop-prime in
     let a = c.args in
-    wrote_pieces (λ k. product_line a.n (product_by (listed a.equations) a.m (chosen_at a.choice k))) l.i a.choice.count (choice-pieces a.n (listed a.equations) a.m a.choice) (omega arith) l.invariant.1
+    wrote-pieces _ (λ k. product_line a.n (product_by (listed a.equations) a.m (chosen_at a.choice.now k))) l.prime-index l.invariant a.choice.now.count (choice-pieces a.n (listed a.equations) a.m a.choice.now)
+    (omega (arith, c.as_slice-prime-items.ensures.number, c.loop-prime-test.false, l.auto.prime-index-end))

@@ -14,7 +14,7 @@ use Rattle.space.specs.Restriction.{restriction}
 use Rattle.table.proofs.Fill.{front_fits, front-part}
 use Rattle.projection.specs.Masks.{kept}
 use Rattle.projection.proofs.Restrictions.{points_kept}
-use Rattle.text.proofs.Writing.{room-same, wrote-same}
+use Rattle.text.proofs.Writing.{fits-same, wrote-same}
 use Rattle.table_report.specs.Parts.{function_text, Restricts}
 use Rattle.table_report.proofs.Parts.{restricts, kept-few}
 use Rattle.table_report.proofs.flags_text.Goals as goal
@@ -40,11 +40,11 @@ function_text-requires c =
     let q = sym (restricted s f c.leads-leads.result c.leads-leads.ensures c.count_kept-count.result c.count_kept-count.ensures c.write_kept.new.room c.write_kept.ensures) in
     record {
       restricts = subst (Restricts a.n a.basis) q (restricts s f);
-      has_room = room-same (ap (function_text a.n a.simple (vectors_of a.basis)) q) c.requires.has_room;
+      fits = fits-same (ap (function_text a.n a.simple (vectors_of a.basis)) q) c.requires.fits;
     }
 
 pub returns : goal.returns
 returns c =
     let a = c.args in
     let q = restricted c.requires.basis_within (flagged a.flags.now) c.leads-leads.result c.leads-leads.ensures c.count_kept-count.result c.count_kept-count.ensures c.write_kept.new.room c.write_kept.ensures in
-    wrote-same (ap (function_text a.n a.simple (vectors_of a.basis)) q) c.function_text.ensures
+    wrote-same _ (ap (function_text a.n a.simple (vectors_of a.basis)) q) c.function_text.ensures

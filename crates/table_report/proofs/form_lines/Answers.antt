@@ -4,7 +4,7 @@ use Rattle.basis.specs.Reduced.{vectors_of}
 use Rattle.basis.proofs.Values.{short-again}
 use Rattle.space.specs.Restriction.{equations}
 use Rattle.projection.proofs.Restrictions.{spans-few}
-use Rattle.text.proofs.Writing.{room-same, wrote-same}
+use Rattle.text.proofs.Writing.{fits-same, wrote-same}
 use Rattle.table_report.proofs.Parts.{basis-refused, basis-chosen}
 use Rattle.table_report.proofs.form_lines.Goals as goal
 
@@ -12,10 +12,10 @@ pub overflow_sub-m : goal.overflow_sub-m
 overflow_sub-m c = spans-few c.requires.restricts.spans
 
 pub number_line-requires : goal.number_line-requires
-number_line-requires c = room-same (sym (basis-refused c.requires.restricts.spans c.args.points.now c.if-m-gt-MAX_LISTED.true)) c.requires.has_room
+number_line-requires c = rw c.number.ensures (fits-same (sym (basis-refused c.requires.restricts.spans c.args.points.now c.if-m-gt-MAX_LISTED.true)) c.requires.fits)
 
 pub returns-then-m-gt-MAX_LISTED : goal.returns-then-m-gt-MAX_LISTED
-returns-then-m-gt-MAX_LISTED c = wrote-same (basis-refused c.requires.restricts.spans c.args.points.now c.if-m-gt-MAX_LISTED.true) c.number_line.ensures
+returns-then-m-gt-MAX_LISTED c = wrote-same _ (basis-refused c.requires.restricts.spans c.args.points.now c.if-m-gt-MAX_LISTED.true) (rw c.number.ensures at c.number_line.ensures)
 
 -- The primes are chosen and the equations found: their text is the form's.
 pub choice_text-requires : goal.choice_text-requires
@@ -27,11 +27,11 @@ choice_text-requires c =
       n_le_max_variables = c.requires.restricts.spans.few;
       equations_value = short-again q.result (equations a.n (vectors_of a.basis)) q.ensures;
       choice = k.ensures.valid;
-      has_room = room-same (sym (basis-chosen c.requires.restricts.spans a.points.now c.if-m-gt-MAX_LISTED.false k.result k.ensures q.result q.ensures)) c.requires.has_room;
+      fits = fits-same (sym (basis-chosen c.requires.restricts.spans a.points.now c.if-m-gt-MAX_LISTED.false k.result k.ensures q.result q.ensures)) c.requires.fits;
     }
 
 pub returns : goal.returns
 returns c =
     let k = c.choose-choice in
     let q = c.equations-equations in
-    wrote-same (basis-chosen c.requires.restricts.spans c.args.points.now c.if-m-gt-MAX_LISTED.false k.result k.ensures q.result q.ensures) c.choice_text.ensures
+    wrote-same _ (basis-chosen c.requires.restricts.spans c.args.points.now c.if-m-gt-MAX_LISTED.false k.result k.ensures q.result q.ensures) c.choice_text.ensures

@@ -1,27 +1,23 @@
 -- `walk::pass` meets its contract: one law for each way that a candidate can go. Assumes nothing.
-use mathlib.Core.Path.{ap, ap₂, ◌∙◌}
+use mathlib.Core.Path.{ap, ◌∙◌}
 use mathlib.Core.List.{[], ◌∷◌, ◌++◌}
 use Prim.Native.Nat.{◌*◌}
-use native.Mathlib.Nat.{pos_of_ne-zero}
 use native.Mathlib.Omega.{arith}
 use lib.Pow.{pow_mono}
 use lib.ListN.{length}
 use lib.Seq.{sets, length-sets}
 use Rattle.cubes.specs.Records.{record_length}
 use Rattle.bases.specs.Bases.{vectors_of}
-use Rattle.walk.specs.declared.Tally.{Tally}
 use Rattle.masks.specs.Points.{prime_by, record_by}
 use Rattle.bases.specs.Entry.{candidate_at}
-use Rattle.walk.specs.Walk.{state}
+use Rattle.walk.specs.Walk.{writing, going_on}
 use Rattle.masks.proofs.PrimeTest.{count_none, count-some, count_small, count-record}
 use Rattle.walk.proofs.Steps.{pass_spent, pass-off, pass-full, pass-write}
 use Rattle.walk.proofs.pass.Goals as goal
 
-pub returns-then-tally-eq0 : goal.returns-then-tally-eq0
-returns-then-tally-eq0 c =
-    let a = c.args in
-    ap (λ (t : Tally). state t a.room.now) c.stopping.ensures
-    ∙ pass_spent (prime_by a.n a.on a.free) (record_by a.n a.on) (candidate_at a.d a.p a.entry) a.tally a.room.now c.if-tally-eq0.true
+pub returns-then-left-eq0 : goal.returns-then-left-eq0
+returns-then-left-eq0 c =
+    let a = c.args in pass_spent (prime_by a.n a.on a.free) (record_by a.n a.on) (candidate_at a.d a.p a.entry) a.tally a.room.now c.if-left-eq0.true
 
 pub count_in_prime-count-requires : goal.count_in_prime-count-requires
 count_in_prime-count-requires c = record { on_points = c.requires.on_points; free_points = c.requires.free_points; entry_at = c.requires.entry_at }
@@ -29,15 +25,13 @@ count_in_prime-count-requires c = record { on_points = c.requires.on_points; fre
 pub returns-then-count-eq0 : goal.returns-then-count-eq0
 returns-then-count-eq0 c =
     let a = c.args in
-    ap (λ (t : Tally). state t a.room.now) c.passing.ensures
-    ∙ pass-off (prime_by a.n a.on a.free) (record_by a.n a.on) (candidate_at a.d a.p a.entry) a.tally a.room.now c.if-tally-eq0.false
+    pass-off (prime_by a.n a.on a.free) (record_by a.n a.on) (candidate_at a.d a.p a.entry) a.tally a.room.now c.if-left-eq0.false
     (count_none a.on a.free c.requires.entry_at c.count_in_prime-count.result c.count_in_prime-count.ensures c.if-count-eq0.true)
 
 pub returns-then-room-written-lt-RECORD_LENGTH : goal.returns-then-room-written-lt-RECORD_LENGTH
 returns-then-room-written-lt-RECORD_LENGTH c =
     let a = c.args in
-    ap (λ (t : Tally). state t a.room.now) c.stopping-then-room-written-lt-RECORD_LENGTH.ensures
-    ∙ pass-full (prime_by a.n a.on a.free) (record_by a.n a.on) (candidate_at a.d a.p a.entry) a.tally a.room.now c.if-tally-eq0.false
+    pass-full (prime_by a.n a.on a.free) (record_by a.n a.on) (candidate_at a.d a.p a.entry) a.tally a.room.now c.if-left-eq0.false
     (count-some a.on a.free c.requires.entry_at c.count_in_prime-count.result c.count_in_prime-count.ensures c.if-count-eq0.false) (omega (arith, c.if-room-written-lt-RECORD_LENGTH.true))
 
 pub put-requires : goal.put-requires
@@ -50,10 +44,6 @@ put-requires c =
       count_bound = omega (arith, count_small c.args.on c.args.free k c.count_in_prime-count.result c.count_in_prime-count.ensures c.if-count-eq0.false);
     }
 
-pub writing-requires : goal.writing-requires
-writing-requires c =
-    record { left_nonzero = pos_of_ne-zero c.if-tally-eq0.false; written_bound = omega (arith, c.requires.written_in_bounds) }
-
 pub shape_of-room : goal.shape_of-room
 shape_of-room c =
     let a = c.args in
@@ -64,7 +54,7 @@ returns c =
     let a = c.args in
     let k = c.requires.entry_at in
     let some = c.if-count-eq0.false in
-    ap₂ state c.writing.ensures
+    ap (going_on (writing a.tally))
     (c.put.ensures ∙ ap (sets a.room.now (record_length * a.tally.written)) (count-record a.on a.free k c.count_in_prime-count.result c.count_in_prime-count.ensures some))
-    ∙ pass-write (prime_by a.n a.on a.free) (record_by a.n a.on) (candidate_at a.d a.p a.entry) a.tally a.room.now c.if-tally-eq0.false
+    ∙ pass-write (prime_by a.n a.on a.free) (record_by a.n a.on) (candidate_at a.d a.p a.entry) a.tally a.room.now c.if-left-eq0.false
     (count-some a.on a.free k c.count_in_prime-count.result c.count_in_prime-count.ensures some) (omega (arith, c.if-room-written-lt-RECORD_LENGTH.false))

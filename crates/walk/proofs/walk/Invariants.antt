@@ -1,14 +1,10 @@
--- `walk::walk` meets its contract: the loop stands where `Stand` says, and each way through a turn is one law of it. Assumes nothing.
-use Prim.Native.Nat.{◌+◌, ◌-◌, ◌*◌}
-use lib.ListN.{length, drop}
-use Rattle.bases.specs.Bases.{entry_count}
+-- `walk::walk` meets its contract: the walk has come to the degrees below the counter, of which the highest is from `first` on. Assumes nothing.
+use Prim.Native.Nat.{◌^◌, ◌<◌}
 use Rattle.walk.specs.Places.{from_point}
-use Rattle.walk.specs.Walk.{starting, state, walk_masked}
-use Rattle.walk.proofs.Stand.{Stand}
+use Rattle.walk.specs.Walk.{starting, Reaches}
+use Rattle.walk.proofs.Stand.{remaining}
 use Rattle.walk.proofs.walk.Given as goal
 
-abbrev pub invariant-loop-entry : goal.invariant-loop-entry
-invariant-loop-entry l = Stand l.n l.on l.free (length l.initial.room) (walk_masked l.n l.on l.free (drop l.initial.skip (from_point l.n l.degree l.point)) (state (starting l.allowance) l.initial.room)) l.skip l.d l.p l.i (state l.tally l.room)
-
-abbrev pub decreases-loop-entry : goal.decreases-loop-entry
-decreases-loop-entry l = l.d * 200000 + (64 - l.p) * 2900 + (entry_count - l.i)
+abbrev pub invariant-loop-d : goal.invariant-loop-d
+invariant-loop-d l = Reaches l.n l.on l.free (from_point l.n l.degree l.point) (remaining l.n l.d l.first) (record { skip = l.skip; tally = starting l.allowance }) l.initial.room l.progress l.room
+    × (l.first < 2 ^ l.n)

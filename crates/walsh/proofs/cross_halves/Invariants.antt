@@ -1,11 +1,7 @@
 -- `walsh::cross_halves` meets its contract. The loop's invariant: the places below u and their fellows are crossed, the others as they were. Assumes
 -- nothing.
-use Prim.Native.Nat.{◌≤◌, ◌-◌}
 use Rattle.walsh.proofs.Crossing.{Halving}
 use Rattle.walsh.proofs.cross_halves.Given as goal
 
 abbrev pub invariant-loop-u : goal.invariant-loop-u
-invariant-loop-u l = (l.u ≤ l.half) × Halving l.half l.initial.numbers l.u l.numbers
-
-abbrev pub decreases-loop-u : goal.decreases-loop-u
-decreases-loop-u l = l.half - l.u
+invariant-loop-u l = Halving l.half l.initial.numbers l.u l.numbers

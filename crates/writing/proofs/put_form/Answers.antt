@@ -23,17 +23,17 @@ long n products room behind e = stored-length room variables_kind n products beh
 pub put_end-requires : goal.put_end-requires
 put_end-requires c =
     let p = c.put_products-at in
-    omega (arith, long c.args.n (encode_products (products_by (listed c.args.equations) c.args.m c.args.choice c.args.choice.count)) c.args.room.now p.new.room p.ensures.room_after, p.ensures.value, c.requires.choice_in_bounds)
+    omega (arith, long c.args.n (encode_products (products_by (listed c.args.equations) c.args.m c.args.choice.now c.args.choice.now.count)) c.args.room.now p.new.room p.ensures.room_after, p.ensures.value, c.requires.choice_in_bounds)
 
 pub shape_of-room : goal.shape_of-room
 shape_of-room c =
     let p = c.put_products-at in
-    ap length c.put_end.ensures ∙ length-sets p.new.room p.result (encode_end c.args.choice.count)
-    ∙ long c.args.n (encode_products (products_by (listed c.args.equations) c.args.m c.args.choice c.args.choice.count)) c.args.room.now p.new.room p.ensures.room_after
+    ap length c.put_end.ensures ∙ length-sets p.new.room p.result (encode_end c.args.choice.now.count)
+    ∙ long c.args.n (encode_products (products_by (listed c.args.equations) c.args.m c.args.choice.now c.args.choice.now.count)) c.args.room.now p.new.room p.ensures.room_after
 
 pub returns : goal.returns
 returns c =
     let a = c.args in
     let p = c.put_products-at in
-    form-stored (listed a.equations) a.m a.choice c.requires.choice a.n p.result a.room.now p.new.room c.put_end.new.room
+    form-stored (listed a.equations) a.m a.choice.now c.requires.choice a.n p.result a.room.now p.new.room c.put_end.new.room
     p.ensures.value c.requires.choice_in_bounds p.ensures.room_after c.put_end.ensures

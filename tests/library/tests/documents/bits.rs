@@ -23,7 +23,11 @@ fn counting(text: &str) -> Vec<(&str, &str)> {
     for function in text.split("fn ").skip(1) {
         let (name, body) = function.split_once('(').expect("a name");
         let counts = COUNTS.into_iter();
-        let made = counts.filter(|count| body.contains(&format!("::{count}(")));
+        let made = counts.filter(|count| {
+            ["::", "."]
+                .iter()
+                .any(|mark| body.contains(&format!("{mark}{count}(")))
+        });
         found.extend(made.map(|count| (name, count)));
     }
     found
@@ -45,8 +49,10 @@ fn no_other_function_counts() {
 #[test]
 fn counts_are_found() {
     let text = &code_in("crates")["gf2/src/lib.rt"];
-    let other = text.replace("x ^ b", "u16::leading_zeros(x)");
-    let found = counting(&other);
-    assert_eq!(found[..2], counting(text));
-    assert_eq!(found[2..], [("clear_lead", "leading_zeros")]);
+    for count in ["u16::leading_zeros(x)", "x.leading_zeros()"] {
+        let other = text.replace("x ^ b", count);
+        let found = counting(&other);
+        assert_eq!(found[..2], counting(text));
+        assert_eq!(found[2..], [("clear_lead", "leading_zeros")]);
+    }
 }

@@ -77,7 +77,7 @@ fn refusals_of_calls_are_those_of_the_header() {
     }
 }
 
-/// The refusal numbers of the code: constants whose name ends so.
+/// The refusal numbers of the code: what the methods `number` give for the variants of their enums.
 fn numbers_in_code() -> BTreeSet<usize> {
     let mut found = BTreeSet::new();
     for entry in fs::read_dir(root().join("crates")).expect("the folder of the crates") {
@@ -86,8 +86,13 @@ fn numbers_in_code() -> BTreeSet<usize> {
             .path()
             .join("src/lib.rt");
         let text = fs::read_to_string(file).unwrap_or_default();
-        let parts = text.split("_FAULT: u8 = ").skip(1);
-        found.extend(parts.map(|part| numbers(part)[0]));
+        for method in text.split("fn number(self) -> u8").skip(1) {
+            let body = method.split("\n    }\n").next().expect("its end");
+            let arms = body.lines().filter_map(|line| line.split_once(" => "));
+            found.extend(
+                arms.filter_map(|(_, number)| number.trim_end_matches(',').parse::<usize>().ok()),
+            );
+        }
     }
     found
 }

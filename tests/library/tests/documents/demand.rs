@@ -171,6 +171,7 @@ fn fields(name: &str) -> Vec<String> {
         "writing",
         "report",
         "analysis",
+        "space_answer",
         "index",
     ];
     let texts = code.map(|name| read(&format!("crates/{name}/src/lib.rt")));

@@ -240,6 +240,20 @@ fn in_capitals(variant: &str) -> String {
     name
 }
 
+/// The variants of an enum of the code by the numbers that it gives them.
+fn numbered(code: &str, name: &str) -> BTreeMap<u8, String> {
+    let prefix = format!("{name}::");
+    let arms = code
+        .lines()
+        .filter_map(|line| line.trim().strip_prefix(&prefix));
+    let pair = |arm: &str| {
+        let (variant, number) = arm.split_once(" => ")?;
+        let number = number.trim_end_matches(',').parse().ok()?;
+        Some((number, in_capitals(variant.split('(').next()?)))
+    };
+    arms.filter_map(pair).collect()
+}
+
 #[test]
 fn names_of_refusals_are_the_same() {
     let header = read(HEADER);
@@ -250,7 +264,13 @@ fn names_of_refusals_are_the_same() {
     let mut in_header = named(list, "    GLOSPRUMA_", " = ");
     assert_eq!(in_header.remove(&0).as_deref(), Some("ACCEPTED"));
     let code = read("crates/table/src/lib.rt");
-    assert_eq!(named(&code, "pub const ", "_FAULT: u8 = "), in_header);
+    let mut in_code = numbered(&code, "Refusal");
+    // A fault of bytes has the header's name, or the part of it that the enum's name doesn't say.
+    for (number, name) in numbered(&code, "BytesFault") {
+        assert!(in_header[&number].contains(&name), "{number}: {name}");
+        in_code.insert(number, in_header[&number].clone());
+    }
+    assert_eq!(in_code, in_header);
     let variant = |refusal: Refusal| (u8::from(refusal), in_capitals(&format!("{refusal:?}")));
     let in_package = Refusal::ALL.into_iter().map(variant);
     assert_eq!(in_package.collect::<BTreeMap<u8, String>>(), in_header);

@@ -1,7 +1,7 @@
 -- `basis::Basis::full` meets its contract: after i turns the array holds the i first vectors of one bit. Assumes nothing.
 use mathlib.Core.Path.{◌≡◌, sym, ap, ap₂, ◌∙◌, subst}
 use mathlib.Core.List.{List, [], ◌∷◌, ◌++◌}
-use Prim.Native.Nat.{ℕ, ◌+◌, ◌*◌, ◌%◌, ◌-◌, ◌^◌, ◌≤◌, ◌<◌}
+use Prim.Native.Nat.{ℕ, ◌+◌, ◌*◌, ◌%◌, ◌^◌, ◌≤◌, ◌<◌}
 use native.Mathlib.Numerals.{add-one}
 use native.Mathlib.Omega.{arith}
 use borrow.Author.Rules.{rules}
@@ -32,7 +32,7 @@ stored l i h e =
     ∙ ap (λ (k : ℕ). padded (units k)) (sym (add-one i))
 
 pub loop-i-preserved : goal.loop-i-preserved
-loop-i-preserved c = let h = c.loop-i in (omega arith, stored h.vectors h.i (omega arith) h.invariant.1)
+loop-i-preserved c = let h = c.loop-i in stored h.vectors h.i (omega arith) h.invariant
 
 whole : (n : ℕ) (l : List ℕ) → n ≤ max_variables → l ≡ padded (units n) → Built (record { vectors = l; len = n }) (units n) (λ (x : ℕ). x < 2 ^ n)
 whole n l h e =
@@ -45,4 +45,4 @@ pub returns : goal.returns
 returns c =
     let h = c.loop-i in
     let e : h.i ≡ c.args.n = omega arith in
-    whole c.args.n h.vectors c.requires (h.invariant.1 ∙ ap (λ (k : ℕ). padded (units k)) e)
+    whole c.args.n h.vectors c.requires (h.invariant ∙ ap (λ (k : ℕ). padded (units k)) e)

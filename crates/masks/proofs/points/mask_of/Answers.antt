@@ -1,10 +1,9 @@
--- `masks::points::mask_of` meets its contract: the points from place i on are what is left to be put in. Assumes nothing.
+-- `masks::points::mask_of` meets its contract: the points from the index on are what is left to be put in. Assumes nothing.
 use mathlib.Core.Path.{◌≡◌, sym, ap, ◌∙◌}
 use mathlib.Core.Bool.{Bool, ◌||◌, or-false}
 use mathlib.Core.List.{[]}
 use native.Mathlib.Omega.{arith}
 use lib.ListN.{drop, drop_of_length-le}
-use borrow.Author.Rules.{rules}
 use Rattle.gf2.specs.Bits.{bit}
 use Rattle.gf2.specs.Finite.{holds}
 use Rattle.gf2.proofs.Xor.{bit-zero}
@@ -13,21 +12,21 @@ use Rattle.cubes.specs.Records.{max_listed}
 use Rattle.masks.proofs.Folds.{mask_next}
 use Rattle.masks.proofs.points.mask_of.Goals as goal
 
-pub loop-i-init : goal.loop-i-init
-loop-i-init c = (search rules, λ x. ap (λ (t : Bool). t || holds c.args.points.now x) (bit-zero x))
+pub loop-point-init : goal.loop-point-init
+loop-point-init c = λ x. ap (λ (t : Bool). t || holds c.args.points.now x) (bit-zero x)
 
 pub overflow_shl-mask : goal.overflow_shl-mask
 overflow_shl-mask c =
-    omega (arith, c.flag_place.ensures, inside-at max_listed c.args.points.now c.requires c.loop-i.i (omega arith))
+    omega (arith, c.flag_place.ensures, inside-at max_listed c.args.points.now c.requires c.loop-point.point-index (omega arith))
 
-pub loop-i-preserved : goal.loop-i-preserved
-loop-i-preserved c =
-    let l = c.loop-i in
-    (omega arith, λ x. mask_next c.args.points.now l.mask l.i c.flag_place.result (omega arith) c.flag_place.ensures (overflow_shl-mask c) x ∙ l.invariant.1 x)
+pub loop-point-preserved : goal.loop-point-preserved
+loop-point-preserved c =
+    let l = c.loop-point in
+    λ x. mask_next c.args.points.now l.mask l.point-index c.flag_place.result (omega arith) c.flag_place.ensures (overflow_shl-mask c) x ∙ l.invariant x
 
 pub returns : goal.returns
 unfolding holds
 returns c =
-    let l = c.loop-i in
-    let end : drop l.i c.args.points.now ≡ [] = drop_of_length-le c.args.points.now {i = l.i} (omega arith) in
-    λ x. sym (or-false (bit x l.mask)) ∙ ap (λ ps. bit x l.mask || holds ps x) (sym end) ∙ l.invariant.1 x
+    let l = c.loop-point in
+    let end : drop l.point-index c.args.points.now ≡ [] = drop_of_length-le c.args.points.now {i = l.point-index} (omega arith) in
+    λ x. sym (or-false (bit x l.mask)) ∙ ap (λ ps. bit x l.mask || holds ps x) (sym end) ∙ l.invariant x

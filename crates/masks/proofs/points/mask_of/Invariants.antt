@@ -1,14 +1,11 @@
--- `masks::points::mask_of` meets its contract: the points from place i on are what is left to be put in. Assumes nothing.
+-- `masks::points::mask_of` meets its contract: the points from the index on are what is left to be put in. Assumes nothing.
 use mathlib.Core.Path.{◌≡◌}
 use mathlib.Core.Bool.{◌||◌}
-use Prim.Native.Nat.{ℕ, ◌-◌, ◌≤◌}
-use lib.ListN.{length, drop}
+use Prim.Native.Nat.{ℕ}
+use lib.ListN.{drop}
 use Rattle.gf2.specs.Bits.{bit}
 use Rattle.gf2.specs.Finite.{holds}
 use Rattle.masks.proofs.points.mask_of.Given as goal
 
-abbrev pub invariant-loop-i : goal.invariant-loop-i
-invariant-loop-i l = (l.i ≤ length l.points) × ((x : ℕ) → bit x l.mask || holds (drop l.i l.points) x ≡ holds l.points x)
-
-abbrev pub decreases-loop-i : goal.decreases-loop-i
-decreases-loop-i l = length l.points - l.i
+abbrev pub invariant-loop-point : goal.invariant-loop-point
+invariant-loop-point l = (x : ℕ) → bit x l.mask || holds (drop l.point-index l.points) x ≡ holds l.points x
