@@ -141,7 +141,8 @@ fn marked(said: PointFlags, symbol: u8) -> PointFlags
     }
 }
 
-// The flags once a row with these inputs and this symbol is read too.
+// The flags once a row with these inputs and this symbol is read too. A call of its own: inlined, the copies of the flags are unrolled, point by point.
+#[inline(never)]
 pub fn flags_with(flags: &Flags, inputs: &[u8], symbol: u8) -> Flags
     requires { length inputs.now ≤ max_variables }
     ensures { (rows : List Row) → Flagged flags.now rows → Flagged result (record { inputs = inputs.now; output = symbol } ∷ rows) }

@@ -113,10 +113,10 @@ going-end text output number reading lines e going =
 
 -- ---- before the first line
 
-none-bounded : Bounded no_head 1
+pub none-bounded : Bounded no_head 1
 none-bounded = record { inputs = omega arith; given = λ e. let z : ◌≡◌ {A = ℕ} 0 1 = cc in absurd (omega arith); outputs = omega arith; cubes = omega arith }
 
-none-flagged : Flagged (replicate max_points unsaid) []
+pub none-flagged : Flagged (replicate max_points unsaid) []
 unfolding says
 none-flagged = record { points = λ p h. get_or-replicate max_points p unsaid unsaid h }
 

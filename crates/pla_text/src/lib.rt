@@ -2,7 +2,7 @@
 // specs/, the laws about them in proofs/. Read next: specs/Text.antt.
 #![tactic(auto)]
 
-ghost use Rattle.std.specs.Prelude.{◌≡◌, ◌<◌};
+ghost use Rattle.std.specs.Prelude.{◌≡◌, ◌<◌, false, ◌∷◌, length, get_or};
 ghost use Rattle.std.specs.List.{slice_get};
 ghost use Rattle.std.specs.Option.{option_copied};
 ghost use Rattle.pla_text.specs.Text.{is_blank, content_of, symbols_of, words_of};
@@ -129,28 +129,47 @@ fn directive(name: &[u8], word: Option<&[u8]>, more: bool) -> Statement
     }
 }
 
-// The word of a line by its number, counted from 0.
-fn word_at(content: &[u8], number: usize) -> Option<&[u8]>
-    ensures { option_copied result ≡ slice_get (words_of content.now) number }
+// A line's content from its first word on, or nothing where it has none.
+fn from_word(content: &[u8]) -> &[u8]
+    ensures words { words_of result.now ≡ words_of content.now }
+    ensures begins { is_blank (get_or result.now 0 0) ≡ false }
 {
-    content
-        .split(|byte| is_blank(*byte))
-        .filter(|word| !word.is_empty())
-        .nth(number)
+    match content.iter().position(|byte| !is_blank(*byte)) {
+        Some(start) => &content[start..],
+        None => &[],
+    }
 }
 
-// The statement that a line makes, by what stands before its comment.
-#[tactic(auto, unfolding(crate::specs::Statements::statement_of))]
+// The first word of a line that begins with one, and the line from its next word on.
+fn split_word(line: &[u8]) -> (&[u8], &[u8])
+    requires some { 0 < length line.now }
+    requires begins { is_blank (get_or line.now 0 0) ≡ false }
+    ensures words { words_of line.now ≡ result.0.now ∷ words_of result.1.now }
+    ensures next { is_blank (get_or result.1.now 0 0) ≡ false }
+{
+    match line.iter().position(|byte| is_blank(*byte)) {
+        Some(end) => (&line[..end], from_word(&line[end..])),
+        None => (line, &[]),
+    }
+}
+
+// The statement that a line makes, by what stands before its comment. A cube is told by its first byte, wherever the word ends.
 pub fn line_statement(content: &[u8]) -> Statement
     ensures { result ≡ statement_of (words_of content.now) }
 {
-    let Some(name) = word_at(content, 0) else {
+    let line = from_word(content);
+    if line.is_empty() {
         return Statement::Empty;
-    };
-    if !name.starts_with(b".") {
+    }
+    if !line.starts_with(b".") {
         return Statement::Cube;
     }
-    directive(name, word_at(content, 1), word_at(content, 2).is_some())
+    let (name, rest) = split_word(line);
+    if rest.is_empty() {
+        return directive(name, None, false);
+    }
+    let (word, rest) = split_word(rest);
+    directive(name, Some(word), !rest.is_empty())
 }
 
 // The symbol of a line by its number, counted from 0 and without the blanks.

@@ -74,7 +74,8 @@ fn put_refused(out: &mut Writer<'_>, number: u8, line: usize)
 #[tactic(auto, unfolding(text::specs::Writing::with_text))]
 fn write_refused(room: &mut [u8], number: u8, line: usize) -> usize
     requires { HasRoom room.old 0 (refused_message number line) }
-    ensures { Wrote room.old 0 (refused_message number line) room.new result }
+    ensures wrote { Wrote room.old 0 (refused_message number line) room.new result }
+    ensures upper_bound { result ≤ length room.new }
 {
     let mut out = Writer::new(&mut *room, 0);
     put_refused(&mut out, number, line);

@@ -197,13 +197,18 @@ pub fn is_marked(bytes: &[u8], i: usize, on: bool) -> bool
 }
 
 // The number of on points, or of free points. They are counted before the first is written, since a refusal leaves the rooms as they were.
+// A chain of `filter` and `count` branches at each record, which a table of points at random makes twice as slow.
 fn count_points(bytes: &[u8], on: bool) -> usize
     requires { LaidOut bytes.now }
     ensures { result ≡ length (marked_points on (marks bytes.now)) }
 {
-    (0..record_count(bytes))
-        .filter(|i| is_marked(bytes, *i, on))
-        .count()
+    let mut found = 0;
+    for i in 0..record_count(bytes) {
+        if is_marked(bytes, i, on) {
+            found += 1;
+        }
+    }
+    found
 }
 
 // The on points, or the free points, written to the front of the room; how many they are.

@@ -45,11 +45,10 @@ returns-in-Err-clause-stands c =
     rw (c.number.ensures, c.line.ensures)
     (written-refused (take c.args.count c.args.input.now) c.args.output _ _ answer short c.requires.table_len c.in-Err.ensures.answer c.in-Err.ensures.room_after (refusal-some refusal)) in
     stands-whole c.args.input.now _ _ c.args.count c.args.output _ c.requires.input_len
-    (stands-message said (omega (arith, message-fits c.number.result c.line.result c.number.type_inv c.line.type_inv, c.requires.message_len)) c.write_refused.ensures)
+    (stands-message said (omega (arith, message-fits c.number.result c.line.result c.number.type_inv c.line.type_inv, c.requires.message_len)) c.write_refused.ensures.wrote)
 
 pub returns-in-Err-clause-message_in_bounds : goal.returns-in-Err-clause-message_in_bounds
-returns-in-Err-clause-message_in_bounds c =
-    message-inside (message-room c.number.result c.line.result c.args.message.now c.requires.message_len c.number.type_inv c.line.type_inv) c.write_refused.ensures
+returns-in-Err-clause-message_in_bounds c = c.write_refused.ensures.upper_bound
 
 pub returns-in-Ok-clause-stands : goal.returns-in-Ok-clause-stands
 returns-in-Ok-clause-stands c =

@@ -19,8 +19,9 @@ pub fn documents() -> Vec<String> {
     let mut found: Vec<String> = folder
         .map(|entry| format!("docs/{}", name(entry.expect("an entry of a folder"))))
         .collect();
-    // What was ported from the older toolchain, and what was then written anew, is told with its old names.
-    found.retain(|name| name != "docs/PORT.md" && name != "docs/DESIGN-PASS.md");
+    // What was ported from the older toolchain, what was then written anew, and what that made worse, is told with its old names.
+    let old = ["docs/PORT.md", "docs/DESIGN-PASS.md", "docs/LOOK-BACK.md"];
+    found.retain(|name| !old.contains(&name.as_str()));
     // A change that is kept for later is no document.
     found.retain(|name| !name.ends_with(".patch"));
     found.extend(["README.md", "CONTRIBUTING.md", "CHANGELOG.md"].map(str::to_string));
